@@ -1,0 +1,13 @@
+# The two commands: `make run` shows the main job on a shipped example, `make test` is the gate.
+.PHONY: run test setup
+
+# what the commands need beside the Rattle toolchain, from the distribution's packages
+setup:
+	@scripts/setup
+
+run: setup
+	@scripts/show-worked
+
+# The gate: proves every crate from nothing, tries every must-fail edit, runs each program. Its last line is 'N passed, 0 failed'.
+test: setup
+	@rt ci

@@ -1,0 +1,4 @@
+pub mod Plays
+pub mod Queue
+pub mod Demands
+pub mod OnlyOne

@@ -1,0 +1,4 @@
+pub mod Demand1
+pub mod Session
+pub mod Demand2
+pub mod Demand3

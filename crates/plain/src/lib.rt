@@ -1,0 +1,1 @@
+// Meanings only: tables of refusals, lists of pairs. No function.

@@ -1,0 +1,16 @@
+pub mod Lane
+pub mod Level
+pub mod Descent
+pub mod Sort
+pub mod Spread
+pub mod Rebuild
+pub mod Tidy
+pub mod Dealing
+pub mod Tally
+pub mod Queue
+pub mod Room
+pub mod Reach
+pub mod Indexed
+pub mod Soundness
+pub mod Reaches
+pub mod Beyond

@@ -12,6 +12,7 @@ use borrow.Author.Tests.{leb-true, leb-false, ltb-true, ltb-false, le-leb, lt-le
 use lib.Dec.{leb, ltb}
 use lib.ListN.{length, getD, take, drop, length-take, length-drop, drop-of-length-le}
 use lib.Seq.{drop-length, take-nil, take-take, drop-drop, take-all, getD-take, getD-drop}
+use Rattle.lists.specs.Put.{drop-take}
 use Rattle.plain.specs.Lists.{Every, keep, sift, insert, sort, largest}
 use Rattle.rules.specs.Pair.{idOf, OPEN}
 use Rattle.rules.specs.Update.{Held}
@@ -181,18 +182,6 @@ drop-min k S = go (leb (length S) k) refl
     go false e =
         let z : min k (length S) ≡ k = omega (arith, leb-false (length S) k e) in
         rw z refl
-
-drop-take : (k n : ℕ) (T : List ℕ) → drop k (take n T) ≡ take (n - k) (drop k T)
-drop-take zero n T =
-    let e : n - 0 ≡ n = omega arith in
-    rw e refl
-drop-take (suc k) zero T =
-    let e : 0 - suc k ≡ 0 = omega arith in
-    rw e refl
-drop-take (suc k) (suc n) [] = sym (take-nil (suc n - suc k))
-drop-take (suc k) (suc n) (y ∷ T) =
-    let e : suc n - suc k ≡ n - k = omega arith in
-    rw e (drop-take k n T)
 
 -- ---- DEALING IS SPREADING
 

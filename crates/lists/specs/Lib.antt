@@ -1,0 +1,4 @@
+-- Put: words stored. Part: a part read. Move: turns of loops that move words. Assumes nothing.
+pub mod Put
+pub mod Part
+pub mod Move

@@ -21,7 +21,7 @@ use Rattle.rules.proofs.Room.{room}
 
 -- ---- updates
 
-unword-word : (n : ℕ) (u : Update) → ValidU n u → unword (word u) ≡ u
+pub unword-word : (n : ℕ) (u : Update) → ValidU n u → unword (word u) ≡ u
 unword-word n (decrease p) v =
     let e : (OPEN + p) / OPEN ≡ 1 = omega (arith, v .0 .1) in
     let f : (OPEN + p) % OPEN ≡ p = omega (arith, v .0 .1) in
@@ -35,7 +35,7 @@ unword-word n (sink p) v =
     let f : (3 * OPEN + p) % OPEN ≡ p = omega (arith, v .0 .1) in
     rw (e, f) refl
 
-unwords-words : (n : ℕ) (us : List Update) → Every (ValidU n) us → unwords (words us) ≡ us
+pub unwords-words : (n : ℕ) (us : List Update) → Every (ValidU n) us → unwords (words us) ≡ us
 unwords-words n [] v = refl
 unwords-words n (u ∷ us) v = rw (unword-word n u (v .0), unwords-words n us (v .1)) refl
 
@@ -45,21 +45,21 @@ length-words (u ∷ us) = ap suc (length-words us)
 
 -- ---- lengths
 
-length-pad : (k : ℕ) (xs : List ℕ) → length xs ≤ k → length (pad k xs) ≡ k
+pub length-pad : (k : ℕ) (xs : List ℕ) → length xs ≤ k → length (pad k xs) ≡ k
 length-pad k xs h = omega (arith, length-append xs (replicate (k - length xs) 0), length-replicate {A = ℕ} (k - length xs) 0)
 
-length-rows : (ls : List Level) → length (rowWords ls) ≡ ROW * length ls
+pub length-rows : (ls : List Level) → length (rowWords ls) ≡ ROW * length ls
 length-rows [] = refl
 length-rows (l ∷ ls) = omega (arith, length-rows ls)
 
-updates-below-rows : (ls : List Level) (rest : List ℕ) → updatesBelow (length ls) (rowWords ls ++ rest) ≡ length (stack ls)
+pub updates-below-rows : (ls : List Level) (rest : List ℕ) → updatesBelow (length ls) (rowWords ls ++ rest) ≡ length (stack ls)
 updates-below-rows [] rest = refl
 updates-below-rows (l ∷ ls) rest = omega (arith, updates-below-rows ls rest, length-append (stack ls) (words (l .updates)), length-words (l .updates))
 
 -- ---- the levels
 
 module _ (Z : ℕ → ℕ → Type 0) (n : ℕ) where
-  read-lay-out-levels : (f i : ℕ) (ls : List Level) (r e u : List ℕ) → Chain Z n f i ls
+  pub read-lay-out-levels : (f i : ℕ) (ls : List Level) (r e u : List ℕ) → Chain Z n f i ls
       → readLevels (length ls) i (rowWords ls ++ r) (elementWords i ls ++ e) (stack ls ++ u) ≡ ls
   read-lay-out-levels f i [] r e u c = refl
   read-lay-out-levels f i (l ∷ ls) r e u c =
@@ -76,7 +76,7 @@ module _ (Z : ℕ → ℕ → Type 0) (n : ℕ) where
 
 -- ---- the image
 
-length-elements : (Z : ℕ → ℕ → Type 0) (n f i e : ℕ) (ls : List Level) → e ≡ i + length ls → Chain Z n f i ls → length (elementWords i ls) + 2 ^ i ≡ 2 ^ e
+pub length-elements : (Z : ℕ → ℕ → Type 0) (n f i e : ℕ) (ls : List Level) → e ≡ i + length ls → Chain Z n f i ls → length (elementWords i ls) + 2 ^ i ≡ 2 ^ e
 length-elements Z n f i e [] q c =
     let q′ : e ≡ i = omega arith in
     rw q′ (omega arith)
@@ -93,7 +93,7 @@ pub length-stack : (ls : List Level) → length (stack ls) ≡ stacked ls
 length-stack [] = refl
 length-stack (l ∷ ls) = omega (arith, length-stack ls, length-append (stack ls) (words (l .updates)), length-words (l .updates))
 
-stack-le : (ls : List Level) → length (stack ls) ≤ length (reading ls)
+pub stack-le : (ls : List Level) → length (stack ls) ≤ length (reading ls)
 stack-le [] = omega arith
 stack-le (l ∷ ls) =
     omega (
@@ -112,13 +112,13 @@ module _ (n : ℕ) (ls : List Level) (s : Firm n ls) where
   abbrev H : List ℕ
   H = headWords n (waiting ls)
 
-  stack-fits : length (stack ls) ≤ stackWords n
+  pub stack-fits : length (stack ls) ≤ stackWords n
   stack-fits = omega (arith, stack-le ls, room n ls s)
 
-  elements-size : length (elementWords 0 ls) + 1 ≡ 2 ^ L
+  pub elements-size : length (elementWords 0 ls) + 1 ≡ 2 ^ L
   elements-size = length-elements (Ends n) n 0 0 L ls (omega (arith, s .size)) (s .chain)
 
-  rows-size : length (rowWords ls) ≡ ROW * L
+  pub rows-size : length (rowWords ls) ≡ ROW * L
   rows-size = omega (arith, length-rows ls, s .size)
 
   pub length-lay-out : length (layOut n ls) ≡ need n
@@ -170,11 +170,11 @@ lay-out-unique n ls ks s t e = sym (read-lay-out n ls s []) ∙ ap (λ (w : List
 
 -- ---- A PUSH CHANGES THREE WORDS: word 2, level 0's update count, and the stack's first free word
 
-words-append : (us vs : List Update) → words (us ++ vs) ≡ words us ++ words vs
+pub words-append : (us vs : List Update) → words (us ++ vs) ≡ words us ++ words vs
 words-append [] vs = refl
 words-append (u ∷ us) vs = ap (λ (l : List ℕ). word u ∷ l) (words-append us vs)
 
-zeros : (k : ℕ) → 0 < k → replicate {A = ℕ} k 0 ≡ 0 ∷ replicate (k - 1) 0
+pub zeros : (k : ℕ) → 0 < k → replicate {A = ℕ} k 0 ≡ 0 ∷ replicate (k - 1) 0
 zeros zero h = absurd (omega arith)
 zeros (suc k) h =
     let e : suc k - 1 ≡ k = omega arith in

@@ -7,7 +7,7 @@ use mathlib.Core.Path.{_≡_, refl, sym, ap, _∙_}
 use native.Mathlib.Omega.{arith}
 use lib.Pow.{pow-mono}
 use Rattle.rules.specs.Pair.{InRange, levels}
-use Rattle.rules.proofs.Rebuild.{pos-pow}
+use Rattle.rules.proofs.Refill.{pos-pow}
 use Rattle.rules.proofs.Soundness.{levels-least}
 use Rattle.layout.specs.Image.{need}
 use Rattle.layout.specs.SoundImage.{nOf, SoundImage, SMALLEST, TooShort, Verdict, tooShort, notSound, good, Judged}

@@ -12,6 +12,7 @@ use native.Mathlib.Omega.{arith}
 use lib.Dec.{leb}
 use lib.ListN.{length, drop, length-append}
 use lib.Seq.{drop-at}
+use Rattle.plain.proofs.Every.{every-append}
 use Rattle.plain.specs.Lists.{Every}
 use Rattle.rules.specs.Update.{Held, absent, held, Update, decrease, delete, sink, idIn, waits}
 use Rattle.rules.specs.Heap.{Level, reading, waiting}
@@ -22,8 +23,8 @@ use Rattle.rules.specs.Firm.{ValidU, LevelFirm, Chain, Ends}
 use Rattle.rules.specs.Queue.{fresh, push, answer, deleteMin}
 use Rattle.rules.specs.Session.{Asked}
 use Rattle.rules.proofs.Level.{asc-take}
-use Rattle.rules.proofs.Descent.{every-append, valid-take}
-use Rattle.rules.proofs.Rebuild.{asc-length}
+use Rattle.rules.proofs.Descent.{valid-take}
+use Rattle.rules.proofs.Refill.{asc-length}
 use Rattle.rules.proofs.Tally.{tally-append}
 use Rattle.rules.proofs.Queue.{push-reading, waits-asked}
 use Rattle.rules.proofs.Room.{stored-room, split-kinds, deletes-wait}

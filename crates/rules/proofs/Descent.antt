@@ -8,6 +8,7 @@ use native.Mathlib.Omega.{arith}
 use borrow.Author.Tests.{leb-true, leb-false, eqb-true, eq-eqb}
 use lib.Dec.{leb, ltb, eqb}
 use lib.ListN.{length}
+use Rattle.plain.proofs.Every.{every-append, every-sift}
 use Rattle.rules.specs.Update.{Held, absent, held, Update, decrease, delete, sink, reads, At, idIn}
 use Rattle.rules.specs.Pair.{idOf}
 use Rattle.rules.specs.Lanes.{over, Ordered}
@@ -124,19 +125,6 @@ module _ (b : ℕ) (D : List Update) (E : List ℕ) (us : List Update) where
       rw (m, l .here, l .passed) g
 
 -- ---- every pair that a step leaves or passes on is a pair of an id below n
-
-module _ {A : Type 0} (P : A → Type 0) where
-  pub every-append : (xs ys : List A) → Every P xs → Every P ys → Every P (xs ++ ys)
-  every-append [] ys h k = k
-  every-append (a ∷ xs) ys h k = (h .0, every-append xs ys (h .1) k)
-
-pub every-sift : (P : ℕ → Type 0) (t : ℕ → Bool) (E : List ℕ) → Every P E → Every P (sift t E)
-every-sift P t [] h = tt
-every-sift P t (p ∷ E) h = go (t p) (every-sift P t E (h .1))
-  where
-    go : (b : Bool) → Every P (sift t E) → Every P (keep b p (sift t E))
-    go true k = (h .0, k)
-    go false k = k
 
 pub every-cells : (P : ℕ → Type 0) (e : Held) → At P e → Every P (cells e)
 every-cells P absent h = tt

@@ -61,15 +61,6 @@ fits-absent (sink p) = tt
 
 -- ---- LEVEL BY LEVEL
 
-module _ {A : Type 0} (P Q : A → Type 0) where
-  pub every-both : (xs : List A) → Every P xs → Every Q xs → Every (λ a. P a × Q a) xs
-  every-both [] h k = tt
-  every-both (a ∷ xs) h k = ((h .0, k .0), every-both xs (h .1) (k .1))
-
-  pub every-weaken : ((a : A) → P a → Q a) → (xs : List A) → Every P xs → Every Q xs
-  every-weaken f [] h = tt
-  every-weaken f (a ∷ xs) h = (f a (h .0), every-weaken f xs (h .1))
-
 pub every-floor : (E : List ℕ) → Every (λ p. 0 ≤ p) E
 every-floor [] = tt
 every-floor (p ∷ E) = (omega arith, every-floor E)

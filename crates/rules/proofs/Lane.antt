@@ -26,7 +26,7 @@ pub record Good (b : ℕ) (s m : Held) (t : Taken) : Type 0 where
   pub clear : AllClear (suc b) (t .passed)
   pub order : Ordered s (t .passed)
 
-absent-is : (s : Held) → Absent s → s ≡ absent
+pub absent-is : (s : Held) → Absent s → s ≡ absent
 absent-is absent h = refl
 absent-is (held p) h = absurd h
 

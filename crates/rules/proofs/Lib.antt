@@ -3,8 +3,10 @@ pub mod Level
 pub mod Descent
 pub mod Sort
 pub mod Spread
+pub mod Refill
 pub mod Rebuild
 pub mod Tidy
+pub mod ById
 pub mod Dealing
 pub mod Tally
 pub mod Queue

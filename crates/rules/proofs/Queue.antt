@@ -9,6 +9,7 @@ use native.Mathlib.Omega.{arith}
 use borrow.Author.Tests.{eqb-true, eqb-false}
 use lib.Dec.{eqb}
 use lib.ListN.{length}
+use Rattle.plain.proofs.Every.{every-append}
 use Rattle.rules.specs.Update.{Held, absent, held, Update, decrease, delete, sink, act, reads, At, idIn, waits, stored}
 use Rattle.rules.specs.Pair.{idOf, OPEN, levels}
 use Rattle.rules.specs.Lanes.{Fits, Ordered}
@@ -24,9 +25,10 @@ use Rattle.rules.specs.Session.{Call, takeMin, update, Asked, heapRun, p
 use Rattle.rules.proofs.Dealing.{rebuilt-cuts, tidy-cuts}
 use Rattle.rules.proofs.Lane.{reads-append, ordered-append}
 use Rattle.rules.proofs.Level.{only-append}
-use Rattle.rules.proofs.Descent.{Puts, reads-at, at-find, every-append, Outcome, descent}
+use Rattle.rules.proofs.Descent.{Puts, reads-at, at-find, Outcome, descent}
 use Rattle.rules.proofs.Sort.{every-at, every-sort, length-sort}
-use Rattle.rules.proofs.Rebuild.{open-absent, valid-reads, valid-stores, level-add, least-le, found, rebuilt-live, rebuilt-order, rebuilt-chain, answer-least, answer-live}
+use Rattle.rules.proofs.Refill.{open-absent, valid-reads, valid-stores, level-add, least-le, found}
+use Rattle.rules.proofs.Rebuild.{rebuilt-live, rebuilt-order, rebuilt-chain, answer-least, answer-live}
 use Rattle.rules.proofs.Tidy.{Proper, gathered, gathered-asc, tidied-live, tidied-order, tidied-chain}
 use Rattle.rules.proofs.Tally.{tally-append, Fewer, Sized, descend-fewer, descend-sized, spread-waits, spread-length, rebuilt-waits, rebuilt-length, chain-ends}
 
@@ -189,6 +191,24 @@ clear-zero (decrease p) = (omega arith, tt)
 clear-zero (delete p) = (tt, tt)
 clear-zero (sink p) = (omega arith, tt)
 
+-- tidied by cuts
+module _ (n : ℕ) (ls : List Level) (s : Firm n ls) (pos : 1 ≤ n) where
+  pub tidied-sound : Firm n (tidyCuts n (length ls) (live ls))
+  tidied-sound = record {
+    size = spread-length (λ j. 2 ^ suc j - 1) OPEN (gather n (live ls)) (length ls) 0 0 ∙ s .size;
+    chain = tidied-chain n (live ls) (live-proper n ls s) (length ls) (fit n ls s pos) pos;
+    order = tidied-order n (live ls) (live-proper n ls s) (length ls) (fit n ls s pos) pos;
+    no-sink = go (length ls);
+    few = rw (spread-waits (λ j. 2 ^ suc j - 1) OPEN (gather n (live ls)) (length ls) 0 0) (omega arith);
+  }
+    where
+      go : (d : ℕ) → Sinkless (tidyCuts n d (live ls))
+      go zero = tt
+      go (suc d) = refl
+
+  pub tidied-same : (x : ℕ) → live (tidyCuts n (length ls) (live ls)) x ≡ live ls x
+  tidied-same = tidied-live n (live ls) (live-proper n ls s) (length ls) (fit n ls s pos) pos
+
 module _ (n : ℕ) (u : Update) (v : ValidU n u) (a : Asked u) where
   pub push-sound : (ls : List Level) → Firm n ls → waiting ls < n → Firm n (push u ls)
   push-sound [] s h = s
@@ -217,22 +237,6 @@ module _ (n : ℕ) (u : Update) (v : ValidU n u) (a : Asked u) where
     pub acted : (x : ℕ) → live after x ≡ plainAct u (live ls) x
 
   module _ (ls : List Level) (s : Firm n ls) (pos : 1 ≤ n) where
-    pub tidy-sound : Firm n (tidyCuts n (length ls) (live ls))
-    tidy-sound = record {
-      size = spread-length (λ j. 2 ^ suc j - 1) OPEN (gather n (live ls)) (length ls) 0 0 ∙ s .size;
-      chain = tidied-chain n (live ls) (live-proper n ls s) (length ls) (fit n ls s pos) pos;
-      order = tidied-order n (live ls) (live-proper n ls s) (length ls) (fit n ls s pos) pos;
-      no-sink = go (length ls);
-      few = rw (spread-waits (λ j. 2 ^ suc j - 1) OPEN (gather n (live ls)) (length ls) 0 0) (omega arith);
-    }
-      where
-        go : (d : ℕ) → Sinkless (tidyCuts n d (live ls))
-        go zero = tt
-        go (suc d) = refl
-
-    pub tidy-live : (x : ℕ) → live (tidyCuts n (length ls) (live ls)) x ≡ live ls x
-    tidy-live = tidied-live n (live ls) (live-proper n ls s) (length ls) (fit n ls s pos) pos
-
     -- a sound heap has a level
     pushed : (ks : List Level) → Firm n ks → waiting ks < n → ((x : ℕ) → live ks x ≡ live ls x) → Updating ls (push u ks)
     pushed [] t h e = absurd (omega (arith, chain-ends n 0 0 0 [] (omega arith) (t .chain)))
@@ -243,8 +247,8 @@ module _ (n : ℕ) (u : Update) (v : ValidU n u) (a : Asked u) where
     update-law = go (eqb (waiting ls) n) refl
       where
         go : (b : Bool) → eqb (waiting ls) n ≡ b → Updating ls (push u (cond b (tidy n ls) ls))
-        go true e = rw (tidy-cuts n ls (live-proper n ls s) (omega (arith, fit n ls s pos))) (pushed (tidyCuts n (length ls) (live ls)) tidy-sound
-            (rw (spread-waits (λ j. 2 ^ suc j - 1) OPEN (gather n (live ls)) (length ls) 0 0) pos) tidy-live)
+        go true e = rw (tidy-cuts n ls (live-proper n ls s) (omega (arith, fit n ls s pos))) (pushed (tidyCuts n (length ls) (live ls)) (tidied-sound n ls s pos)
+            (rw (spread-waits (λ j. 2 ^ suc j - 1) OPEN (gather n (live ls)) (length ls) 0 0) pos) (tidied-same n ls s pos))
         go false e =
             let q : waiting ls ≢ n = eqb-false (waiting ls) n e in
             pushed ls s (omega (arith, s .few)) (λ x. refl)

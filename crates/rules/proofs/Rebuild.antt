@@ -1,211 +1,29 @@
 -- Delete-Min's levels after a stop: every lane is kept but the answer's, and the levels are sound.
 -- Assumes nothing.
-use Prim.Native.Nat.{ℕ, zero, suc, _+_, _^_, _<_, _≤_}
-use mathlib.Core.Bool.{Bool, true, false, cond, _&&_}
-use mathlib.Core.Logic.{_≢_}
-use mathlib.Core.Path.{_≡_, refl, sym, _∙_, subst}
+use Prim.Native.Nat.{ℕ, zero, suc, _^_, _≤_}
+use mathlib.Core.Path.{_≡_, refl, subst}
 use mathlib.Core.List.{List, [], _∷_, _++_, append-assoc}
 use native.Mathlib.Omega.{arith}
-use native.Mathlib.Nat.{one-le-pow, pow-suc}
-use borrow.Author.Tests.{leb-true, leb-false, ltb-true, le-leb, lt-leb, lt-ltb, le-ltb, eqb-true, eqb-false, eq-eqb, ne-eqb}
-use lib.Dec.{leb, ltb, eqb}
-use lib.ListN.{length, getD}
-use Rattle.rules.specs.Update.{Held, absent, held, Update, reads, At}
-use Rattle.rules.specs.Pair.{idOf, OPEN}
-use Rattle.rules.specs.Lanes.{over, Absent, Above, Within, Ordered}
-use Rattle.rules.specs.Firm.{AllClear, Valid, ValidU, LevelFirm, Chain, Ends}
-use Rattle.plain.specs.Lists.{keep, sift, Every, sort}
+use native.Mathlib.Nat.{pow-suc}
+use lib.Dec.{ltb}
+use lib.ListN.{length}
+use Rattle.plain.proofs.Every.{every-append, every-sift}
+use Rattle.rules.specs.Update.{Held, absent, held, reads, At}
+use Rattle.rules.specs.Pair.{idOf}
+use Rattle.rules.specs.Lanes.{over, Above, Ordered}
+use Rattle.rules.specs.Firm.{AllClear, Valid, ValidU, Chain, Ends}
+use Rattle.plain.specs.Lists.{sift, Every, sort}
 use Rattle.rules.specs.Heap.{only, stores, Level, reading, live}
-use Rattle.rules.specs.Step.{whenHeld, find, cells, Stop}
-use Rattle.rules.specs.Sound.{Asc}
+use Rattle.rules.specs.Step.{find, cells, Stop}
 use Rattle.rules.specs.Rebuild.{smallest, addBehind}
-use Rattle.rules.specs.Cuts.{doubles, cut, span, spread, refillCuts, restCuts, rebuiltCuts}
+use Rattle.rules.specs.Cuts.{doubles, cut, spread, refillCuts, restCuts, rebuiltCuts}
 use Rattle.rules.specs.PlainMap.{strike}
-use Rattle.rules.proofs.Lane.{Apart, reads-append, ordered-append, clear-append}
-use Rattle.rules.proofs.Level.{asc-floor, only-append, find-sift, restrict}
-use Rattle.rules.proofs.Descent.{at-find, every-find, reads-at, every-only, valid-puts, clear-reads, clear-lanes, clear-weaken, clear-stores, every-append, every-sift, Stopped, Puts}
-use Rattle.rules.proofs.Sort.{under-suc, count-span, cut-rank, cut-le, at-le-cut, rank-least, every-at, every-sort, every-unsort, length-sort, Up, up-sort}
-use Rattle.rules.proofs.Spread.{reading-append, part-cells, part-lane, ordered-cells, span-none, crest, crest-last, spread-lane, spread-order, spread-chain}
-
-pub pos-pow : (j : ℕ) → 1 ≤ 2 ^ j
-pos-pow j = one-le-pow j 2 (omega arith)
-
--- between the least pair and the cut at 1 there is nothing
-nil-of-length : (S : List ℕ) → length S ≡ 0 → S ≡ []
-nil-of-length [] h = refl
-nil-of-length (p ∷ S) h = absurd (omega arith)
-
-first-gap : (b : ℕ) (E : List ℕ) → Asc 0 E → Every (λ p. p ≤ b) E → 0 < length E → sift (span (suc (smallest E)) (suc (cut b 1 E))) E ≡ []
-first-gap b E a w h =
-    nil-of-length (sift (span (suc (smallest E)) (suc (cut b 1 E))) E)
-    (omega (
-      arith,
-      count-span (suc (smallest E)) (suc (cut b 1 E)) E (omega (arith, at-le-cut b 0 E a w 0 1 (omega arith) h)),
-      under-suc (smallest E) E,
-      under-suc (cut b 1 E) E,
-      rank-least b 0 E a w h,
-      cut-rank b 0 E a w 1 (omega arith),
-    ))
-
--- ---- the refilled levels hold what lies above the least pair up to the cut
-
-module _ (b : ℕ) (E : List ℕ) (a : Asc 0 E) (w : Every (λ p. p ≤ b) E) (some : 0 < length E) where
-  pub first : suc (smallest E) ≤ suc (cut b (2 ^ 1) E)
-  first = omega (arith, at-le-cut b 0 E a w 0 2 (omega arith) some)
-
-  refill-reading : (k : ℕ) → reading (refillCuts b E k) ≡ reading (spread doubles b E (suc (smallest E)) 0 k)
-  refill-reading k = reading-append (spread doubles b E (suc (smallest E)) 0 k) (record { bound = cut b (2 ^ k) E; elements = []; updates = [] } ∷ [])
-
-  gap : (x : ℕ) → restrict (span (suc (smallest E)) (suc (cut b 1 E))) (find x E) ≡ absent
-  gap x = sym (find-sift (span (suc (smallest E)) (suc (cut b 1 E))) x 0 E a) ∙ rw (first-gap b E a w some) refl
-
-  -- the span up to the crest is the span up to the cut
-  crest-is : (x k : ℕ) → restrict (span (suc (smallest E)) (crest doubles b E (suc (smallest E)) 0 k)) (find x E) ≡ restrict (span (suc (smallest E)) (suc (cut b (2 ^ k) E))) (find x E)
-  crest-is x zero = rw (gap x) (span-none (suc (smallest E)) (find x E))
-  crest-is x (suc k) = rw (crest-last doubles b E k (suc (smallest E)) 0 k (omega arith)) refl
-
-  pub refill-lane : (x k : ℕ) (s : Held) → reads s (only x (reading (refillCuts b E k))) ≡ over (restrict (span (suc (smallest E)) (suc (cut b (2 ^ k) E))) (find x E)) s
-  refill-lane x k s =
-      rw (refill-reading k, spread-lane doubles b E (λ j. pos-pow (suc j)) (λ j. omega (arith, pow-suc 2 (suc j))) a w x k (suc (smallest E)) 0 first s, crest-is x k) refl
-
-  pub refill-order : (x k : ℕ) (s : Held) → Apart (restrict (span (suc (smallest E)) (suc (cut b (2 ^ k) E))) (find x E)) s → Ordered s (only x (reading (refillCuts b E k)))
-  refill-order x k s g =
-      rw (refill-reading k) (spread-order doubles b E (λ j. pos-pow (suc j)) (λ j. omega (arith, pow-suc 2 (suc j))) a w x k (suc (smallest E)) 0 first s (rw (crest-is x k) g))
-
--- no more elements than ids
-pub asc-length : (n f : ℕ) (E : List ℕ) → f ≤ n → Asc f E → Every (Valid n) E → f + length E ≤ n
-asc-length n f [] h a v = omega arith
-asc-length n f (p ∷ E) h a v = omega (arith, asc-length n (suc (idOf p)) E (v .0 .0) (a .1) (v .1), a .0)
-
--- the least pair is at most each
-pub least-le : (E : List ℕ) (f : ℕ) → Asc f E → 0 < length E → Every (λ p. smallest E ≤ p) E
-least-le E f a h = every-unsort (λ p. smallest E ≤ p) E (up-least (sort E) (up-sort f E a))
-  where
-    up-all : (g : ℕ) (S : List ℕ) (q : ℕ) → q ≤ g → Up g S → Every (λ p. q ≤ p) S
-    up-all g [] q k u = tt
-    up-all g (p ∷ S) q k u = (omega (arith, u .0), up-all (suc p) S q (omega (arith, u .0)) (u .1))
-
-    up-least : (S : List ℕ) → Up 0 S → Every (λ p. getD S 0 0 ≤ p) S
-    up-least [] u = tt
-    up-least (p ∷ S) u = (omega arith, up-all (suc p) S p (omega arith) (u .1))
-
-strike-above : (b lo : ℕ) (h : Held) → lo ≤ b → Above b h → strike lo h ≡ h
-strike-above b lo absent l a = refl
-strike-above b lo (held p) l a = rw (ne-eqb p lo (λ e. omega arith)) refl
-
-absent-is : (s : Held) → Absent s → s ≡ absent
-absent-is absent h = refl
-absent-is (held p) h = absurd h
-
--- what is put back, and what sinks, is all but the least
-put-back : (b lo top : ℕ) (h s : Held) → lo ≤ top → lo ≤ b → At (λ p. lo ≤ p) h → Apart h s → Above b s
-    → over (restrict (span (suc lo) (suc top)) h) (over (restrict (ltb top) h) s) ≡ strike lo (over h s)
-put-back b lo top absent s l k m d a = sym (strike-above b lo s k a)
-put-back b lo top (held p) s l k m d a = go (eqb p lo) (leb p top) refl refl
-  where
-    go : (t u : Bool) → eqb p lo ≡ t → leb p top ≡ u
-        → over (restrict (span (suc lo) (suc top)) (held p)) (over (restrict (ltb top) (held p)) s) ≡ cond t absent (held p)
-    go true u e f =
-        let q : p ≡ lo = eqb-true p lo e in
-        rw (lt-leb (suc lo) p (omega arith), le-ltb top p (omega arith)) (absent-is s d)
-    go false true e f =
-        let n : p ≢ lo = eqb-false p lo e in
-        rw (le-leb (suc lo) p (omega arith), lt-ltb p (suc top) (omega (arith, leb-true p top f))) refl
-    go false false e f =
-        let n : p ≢ lo = eqb-false p lo e in
-        rw (le-leb (suc lo) p (omega arith), le-ltb p (suc top) (leb-false p top f), lt-ltb top p (leb-false p top f)) refl
-
--- every element is found
-every-both : (P Q R : ℕ → Type 0) (E : List ℕ) → ((p : ℕ) → P p → Q p → R p) → Every P E → Every Q E → Every R E
-every-both P Q R [] f h k = tt
-every-both P Q R (p ∷ E) f h k = (f p (h .0) (k .0), every-both P Q R E f (h .1) (k .1))
-
-pub found : (f : ℕ) (E : List ℕ) → Asc f E → Every (λ p. find (idOf p) E ≡ held p) E
-found f [] a = tt
-found f (p ∷ E) a = (
-  rw (eq-eqb (idOf p) (idOf p) refl) refl,
-  every-both (λ q. suc (idOf p) ≤ idOf q) (λ q. find (idOf q) E ≡ held q) (λ q. find (idOf q) (p ∷ E) ≡ held q) E
-      (λ q l e. rw (ne-eqb (idOf p) (idOf q) (λ z. omega arith)) e) (asc-floor (suc (idOf p)) (suc (idOf p)) E (omega arith) (a .1)) (found (suc (idOf p)) E (a .1)),
-)
-
--- at the last level the cut is the bound
-pub cut-last : (b r : ℕ) (E : List ℕ) → length E ≤ r → cut b r E ≡ b
-cut-last b r E h = rw (le-leb (length E) r h) refl
-
-restrict-none : (c : ℕ) (h : Held) → Within c h → restrict (ltb c) h ≡ absent
-restrict-none c absent w = refl
-restrict-none c (held p) w = rw (le-ltb c p w) refl
-
--- past the open bound nothing is held
-pub open-absent : (n : ℕ) (h : Held) → At (λ p. suc OPEN ≤ p) h → At (Valid n) h → h ≡ absent
-open-absent n absent c v = refl
-open-absent n (held p) c v = absurd (omega (arith, v .1))
-
-pub valid-reads : (n x : ℕ) (us : List Update) → Every (ValidU n) us → At (Valid n) (reads absent (only x us))
-valid-reads n x us v = reads-at (Valid n) absent (only x us) tt (every-only (Puts (Valid n)) x us (valid-puts n us v))
-
-past-open : (n : ℕ) (us : List Update) → AllClear (suc OPEN) us → Every (ValidU n) us → (x : ℕ) → reads absent (only x us) ≡ absent
-past-open n us c v x = open-absent n (reads absent (only x us)) (clear-reads (suc OPEN) x us c) (valid-reads n x us v)
-
--- ---- for the order clause and the chain
-
-apart-over : (top : ℕ) (h s : Held) → Apart h s → Apart (restrict (ltb top) h) s
-apart-over top absent s d = tt
-apart-over top (held p) s d = go (ltb top p)
-  where
-    go : (t : Bool) → Apart (whenHeld t p absent) s
-    go true = d
-    go false = tt
-
-apart-span : (lo top : ℕ) (h s : Held) → Apart h s → Apart (restrict (span lo (suc top)) h) (over (restrict (ltb top) h) s)
-apart-span lo top absent s d = tt
-apart-span lo top (held p) s d = go (leb lo p) (leb p top) refl
-  where
-    go : (t u : Bool) → leb p top ≡ u → Apart (whenHeld (t && ltb p (suc top)) p absent) (over (whenHeld (ltb top p) p absent) s)
-    go true true e = rw (lt-ltb p (suc top) (omega (arith, leb-true p top e)), le-ltb top p (leb-true p top e)) d
-    go true false e = rw (le-ltb p (suc top) (leb-false p top e)) tt
-    go false u e = tt
-
-every-weaken : (f g : ℕ) (E : List ℕ) → g ≤ f → Every (λ p. f ≤ p) E → Every (λ p. g ≤ p) E
-every-weaken f g [] l h = tt
-every-weaken f g (p ∷ E) l h = (omega (arith, h .0), every-weaken f g E l (h .1))
-
-level-weaken : (n f g i : ℕ) (l : Level) → g ≤ f → LevelFirm n f i l → LevelFirm n g i l
-level-weaken n f g i l h k = record {
-  rises = omega (arith, k .rises);
-  ascends = k .ascends;
-  room = k .room;
-  valid = k .valid;
-  within = k .within;
-  beyond = every-weaken f g (l .elements) h (k .beyond);
-  valid-updates = k .valid-updates;
-  clear = clear-weaken f g (l .updates) h (k .clear);
-}
-
-pub level-add : (n f i : ℕ) (l : Level) (us : List Update) → LevelFirm n f i l → AllClear f us → Every (ValidU n) us
-    → LevelFirm n f i (record { bound = l .bound; elements = l .elements; updates = l .updates ++ us })
-level-add n f i l us k c v = record {
-  rises = k .rises;
-  ascends = k .ascends;
-  room = k .room;
-  valid = k .valid;
-  within = k .within;
-  beyond = k .beyond;
-  valid-updates = every-append (ValidU n) (l .updates) us (k .valid-updates) v;
-  clear = clear-append f (l .updates) us (k .clear) c;
-}
-
-pub valid-stores : (n : ℕ) (E : List ℕ) → Every (Valid n) E → Every (ValidU n) (stores E)
-valid-stores n [] v = tt
-valid-stores n (p ∷ E) v = ((v .0, tt), valid-stores n E (v .1))
-
-over-clear : (top : ℕ) (E : List ℕ) → Every (λ p. suc top ≤ p) (sift (ltb top) E)
-over-clear top [] = tt
-over-clear top (p ∷ E) = go (ltb top p) refl (over-clear top E)
-  where
-    go : (t : Bool) → ltb top p ≡ t → Every (λ p. suc top ≤ p) (sift (ltb top) E) → Every (λ p. suc top ≤ p) (keep t p (sift (ltb top) E))
-    go true e h = (ltb-true top p e, h)
-    go false e h = h
+use Rattle.rules.proofs.Lane.{reads-append, ordered-append, clear-append}
+use Rattle.rules.proofs.Level.{only-append, restrict}
+use Rattle.rules.proofs.Descent.{at-find, every-find, clear-lanes, clear-weaken, clear-stores, Stopped}
+use Rattle.rules.proofs.Sort.{under-suc, cut-le, at-le-cut, rank-least, every-at, every-sort, length-sort}
+use Rattle.rules.proofs.Spread.{reading-append, part-cells, part-lane, ordered-cells, crest, crest-last, spread-chain}
+use Rattle.rules.proofs.Refill.{pos-pow, asc-length, least-le, put-back, found, cut-last, restrict-none, past-open, apart-over, apart-span, level-weaken, level-add, valid-stores, over-clear, first, refill-lane, refill-order}
 
 -- T2: DELETE-MIN TAKES THE LEAST LIVE PAIR, AND NOTHING ELSE
 module _ (Z : ℕ → ℕ → Type 0) (n : ℕ) (m : ℕ → Held) (s : Stop) (k : Stopped Z n m s) where

@@ -22,7 +22,7 @@ abbrev pub taken-up : Held → ℕ
 taken-up absent = 0
 taken-up (held p) = 1
 
-lane-room : (s : Held) (us : List Update) → Ordered s us → tally stored us + taken-up s ≤ tally deletes us + 1
+pub lane-room : (s : Held) (us : List Update) → Ordered s us → tally stored us + taken-up s ≤ tally deletes us + 1
 lane-room absent [] o = omega arith
 lane-room (held q) [] o = omega arith
 lane-room absent (delete p ∷ us) o = omega (arith, lane-room absent us (o .1))
@@ -38,7 +38,7 @@ abbrev pub sum : ℕ → (ℕ → ℕ) → ℕ
 sum zero g = 0
 sum (suc n) g = sum n g + g n
 
-sum-same : (n : ℕ) (g h : ℕ → ℕ) → ((x : ℕ) → x < n → g x ≡ h x) → sum n g ≡ sum n h
+pub sum-same : (n : ℕ) (g h : ℕ → ℕ) → ((x : ℕ) → x < n → g x ≡ h x) → sum n g ≡ sum n h
 sum-same zero g h e = refl
 sum-same (suc n) g h e = rw (sum-same n g h (λ x l. e x (omega arith)), e n (omega arith)) refl
 
@@ -59,7 +59,7 @@ sum-zero : (n : ℕ) → sum n (λ x. 0) ≡ 0
 sum-zero zero = refl
 sum-zero (suc n) = omega (arith, sum-zero n)
 
-sum-le : (n : ℕ) (g h : ℕ → ℕ) → ((x : ℕ) → g x ≤ h x + 1) → sum n g ≤ sum n h + n
+pub sum-le : (n : ℕ) (g h : ℕ → ℕ) → ((x : ℕ) → g x ≤ h x + 1) → sum n g ≤ sum n h + n
 sum-le zero g h e = omega arith
 sum-le (suc n) g h e = omega (arith, sum-le n g h e, e n)
 
@@ -70,7 +70,7 @@ tally-keep t u us = go (t u)
     go true = omega arith
     go false = omega arith
 
-lane-sum : (t : Update → Bool) (n : ℕ) (us : List Update) → Every (ValidU n) us → sum n (λ x. tally t (only x us)) ≡ tally t us
+pub lane-sum : (t : Update → Bool) (n : ℕ) (us : List Update) → Every (ValidU n) us → sum n (λ x. tally t (only x us)) ≡ tally t us
 lane-sum t n [] v = sum-zero n
 lane-sum t n (u ∷ us) v =
     sum-bump n (idIn u) (oneMore (t u) 0) (λ x. tally t (only x us)) (λ x. tally t (only x (u ∷ us))) (v .0 .0 .0)

@@ -13,9 +13,10 @@ use lib.Pow.{pow-mono}
 use borrow.Author.Tests.{leb-true, leb-false, eqb-false}
 use lib.Dec.{leb, eqb}
 use lib.ListN.{length, take}
+use Rattle.plain.proofs.Every.{every-both, every-weaken}
 use Rattle.plain.specs.Lists.{Every}
 use Rattle.rules.specs.Pair.{InRange, OPEN, idOf, levelsFrom, levels}
-use Rattle.rules.specs.Update.{absent, Update, decrease, sink, pairIn, idIn}
+use Rattle.rules.specs.Update.{absent, Update, sink, pairIn, idIn}
 use Rattle.rules.specs.Heap.{Level, boundAt, elementsAt, updatesAt, reading, only, live, waiting}
 use Rattle.rules.specs.Sound.{Keyless, NoSink, DeleteBefore, Sound}
 use Rattle.rules.specs.Lanes.{Ordered}
@@ -25,10 +26,10 @@ use Rattle.rules.specs.Cuts.{parts, tidyCuts}
 use Rattle.rules.specs.PlainMap.{IsLeast, plainAct, plainTake}
 use Rattle.rules.specs.Queue.{fresh, makeRoom, updated, deleteMin}
 use Rattle.rules.specs.Session.{Call, Asked, heapRun, plainRun}
-use Rattle.rules.proofs.Indexed.{no-split, ordered-behind, behind-ordered, fits-absent, every-both, every-weaken, every-floor, clear-floor, sinks-none, none-sinks, floor-bound, floor-last, levelAt, chain-of, level-at, floor-at, stacked-reading}
+use Rattle.rules.proofs.Indexed.{no-split, ordered-behind, behind-ordered, fits-absent, every-floor, clear-floor, sinks-none, none-sinks, floor-bound, floor-last, levelAt, chain-of, level-at, floor-at, stacked-reading}
 use Rattle.rules.proofs.Dealing.{tidy-cuts}
 use Rattle.rules.proofs.Tally.{spread-waits}
-use Rattle.rules.proofs.Queue.{Allowed, fit, floor-open, fresh-sound, live-proper, delete-min-law, update-law, simulation, tidy-sound as cuts-sound, tidy-live as cuts-live}
+use Rattle.rules.proofs.Queue.{Allowed, fit, floor-open, fresh-sound, live-proper, delete-min-law, update-law, simulation, tidied-sound, tidied-same}
 use Rattle.rules.proofs.Room.{room}
 
 -- ---- THE ORDER CLAUSE
@@ -225,15 +226,11 @@ module _ (n : ℕ) (ls : List Level) (s : Sound n ls) where
   tidy-is : tidy n ls ≡ tidied
   tidy-is = tidy-cuts n ls (live-proper n ls firm) (omega (arith, fit n ls firm some))
 
-  -- Queue's laws of tidy are stated beside an update
-  abbrev beside : ValidU n (decrease 0)
-  beside = ((some, omega arith), tt)
-
   pub tidy-sound : Sound n (tidy n ls)
-  tidy-sound = rw tidy-is (firm-sound n tidied (s .range) (cuts-sound n (decrease 0) beside tt ls firm some))
+  tidy-sound = rw tidy-is (firm-sound n tidied (s .range) (tidied-sound n ls firm some))
 
   pub tidy-live : (x : ℕ) → live (tidy n ls) x ≡ live ls x
-  tidy-live = rw tidy-is (cuts-live n (decrease 0) beside tt ls firm some)
+  tidy-live = rw tidy-is (tidied-same n ls firm some)
 
   pub tidy-waits : waiting (tidy n ls) ≡ 0
   tidy-waits = rw tidy-is (spread-waits parts OPEN (gather n (live ls)) (length ls) 0 0)

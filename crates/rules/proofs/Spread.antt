@@ -8,6 +8,7 @@ use native.Mathlib.Omega.{arith}
 use borrow.Author.Tests.{leb-true, ltb-true, ltb-false, le-leb, lt-leb, lt-ltb}
 use lib.Dec.{leb, ltb}
 use lib.ListN.{length}
+use Rattle.plain.proofs.Every.{every-sift}
 use Rattle.rules.specs.Update.{Held, absent, held, reads}
 use Rattle.rules.specs.Lanes.{over, Ordered}
 use Rattle.plain.specs.Lists.{keep, sift, Every}
@@ -18,7 +19,7 @@ use Rattle.rules.specs.Firm.{Valid, LevelFirm, Chain}
 use Rattle.rules.specs.Cuts.{cut, span, spread}
 use Rattle.rules.proofs.Lane.{Apart, reads-append, ordered-append}
 use Rattle.rules.proofs.Level.{only-append, only-stores, asc-sift, find-sift, restrict}
-use Rattle.rules.proofs.Descent.{reads-cells, every-sift}
+use Rattle.rules.proofs.Descent.{reads-cells}
 use Rattle.rules.proofs.Sort.{under, under-suc, count-span, cut-rank, cut-mono}
 
 pub reading-append : (ks ls : List Level) → reading (ks ++ ls) ≡ reading ls ++ reading ks

@@ -9,6 +9,7 @@ use native.Mathlib.Omega.{arith}
 use native.Mathlib.Nat.{pow-suc}
 use borrow.Author.Tests.{le-leb, lt-ltb, eqb-true, eqb-false, ltb-true, ltb-false}
 use lib.Dec.{ltb, eqb}
+use Rattle.plain.proofs.Every.{every-append, every-weaken}
 use Rattle.rules.specs.Update.{Held, absent, held, At}
 use Rattle.rules.specs.Pair.{idOf, OPEN}
 use Rattle.rules.specs.Lanes.{over, Ordered, OfId}
@@ -21,10 +22,10 @@ use Rattle.rules.specs.Cuts.{parts, span, tidyCuts}
 use Rattle.rules.specs.Rebuild.{gather}
 use Rattle.rules.proofs.Lane.{Apart}
 use Rattle.rules.proofs.Level.{restrict, find-append, find-cells, find-own, over-absent, find-id}
-use Rattle.rules.proofs.Descent.{at-find, every-append, every-cells}
+use Rattle.rules.proofs.Descent.{at-find, every-cells}
 use Rattle.rules.proofs.Sort.{under-zero}
 use Rattle.rules.proofs.Spread.{crest, crest-last, spread-lane, spread-order, spread-chain}
-use Rattle.rules.proofs.Rebuild.{pos-pow, asc-length, cut-last}
+use Rattle.rules.proofs.Refill.{pos-pow, asc-length, cut-last}
 
 -- what is held of each id is a pair of that id, below n
 abbrev pub Proper : ℕ → (ℕ → Held) → Type 0
@@ -39,10 +40,6 @@ pub at-weaken : (P Q : ℕ → Type 0) (h : Held) → ((p : ℕ) → P p → Q p
 at-weaken P Q absent f a = tt
 at-weaken P Q (held p) f a = f p a
 
-every-weaken : (P Q : ℕ → Type 0) (E : List ℕ) → ((p : ℕ) → P p → Q p) → Every P E → Every Q E
-every-weaken P Q [] f h = tt
-every-weaken P Q (p ∷ E) f h = (f p (h .0), every-weaken P Q E f (h .1))
-
 of-id : (y : ℕ) (h : Held) → At (λ p. idOf p ≡ y) h → OfId y h
 of-id y absent a = tt
 of-id y (held p) a = a
@@ -51,7 +48,7 @@ module _ (m : ℕ → Held) (o : (x : ℕ) → OfId x (m x)) where
   gather-ids : (n : ℕ) → Every (λ p. idOf p < n) (gather n m)
   gather-ids zero = tt
   gather-ids (suc n) =
-      every-append (λ p. idOf p < suc n) (gather n m) (cells (m n)) (every-weaken (λ p. idOf p < n) (λ p. idOf p < suc n) (gather n m) (λ p h. omega arith) (gather-ids n))
+      every-append (λ p. idOf p < suc n) (gather n m) (cells (m n)) (every-weaken (λ p. idOf p < n) (λ p. idOf p < suc n) (λ p h. omega arith) (gather n m) (gather-ids n))
       (go (m n) (o n))
     where
       go : (h : Held) → OfId n h → Every (λ p. idOf p < suc n) (cells h)
@@ -112,7 +109,7 @@ module _ (n : ℕ) (m : ℕ → Held) (k : Proper n m) where
   P = gather n m
 
   pub open-within : Every (λ p. p ≤ OPEN) P
-  open-within = every-weaken (Valid n) (λ p. p ≤ OPEN) P (λ p h. omega (arith, h .1)) gathered-valid
+  open-within = every-weaken (Valid n) (λ p. p ≤ OPEN) (λ p h. omega (arith, h .1)) P gathered-valid
 
   pub r-pos : (j : ℕ) → 1 ≤ parts j
   r-pos j = omega (arith, pow-suc 2 j, pos-pow j)

@@ -9,6 +9,7 @@ use native.Mathlib.Omega.{arith}
 use borrow.Author.Tests.{eqb-true, eq-eqb}
 use lib.Dec.{eqb}
 use lib.ListN.{length}
+use Rattle.plain.proofs.Every.{every-append}
 use Rattle.plain.specs.Lists.{Every}
 use Rattle.rules.specs.Pair.{KEYS, pairOf, keyOf, idOf}
 use Rattle.rules.specs.Update.{Held, absent, held, At}
@@ -16,7 +17,6 @@ use Rattle.rules.specs.Lanes.{over, Absent}
 use Rattle.rules.specs.Step.{whenHeld, find}
 use Rattle.rules.specs.PlainMap.{IsLeast, firstOfAll, plainMin}
 use Rattle.rules.proofs.Lane.{Apart}
-use Rattle.rules.proofs.Descent.{every-append}
 use Rattle.rules.proofs.Queue.{least-unique}
 use Rattle.walks.specs.Rows.{Half}
 use Rattle.walks.specs.Walks.{Table, reachedOf}

@@ -4,13 +4,13 @@ use Prim.Native.Nat.{ℕ, _+_}
 use mathlib.Core.Logic.{inl, inr}
 use mathlib.Core.Path.{_≡_, refl}
 use mathlib.Core.List.{List, [], _∷_, _++_}
+use Rattle.plain.proofs.Every.{every-append}
 use Rattle.plain.specs.Lists.{Every}
 use Rattle.rules.specs.Pair.{pairOf}
 use Rattle.rules.specs.Update.{Held, absent, held, decrease}
 use Rattle.rules.specs.Heap.{Level}
 use Rattle.rules.specs.PlainMap.{plainAct}
 use Rattle.rules.specs.Queue.{updated}
-use Rattle.rules.proofs.Descent.{every-append}
 use Rattle.walks.specs.Rows.{Half, Has}
 use Rattle.walks.specs.Settling.{offered, offer, relax, offerPush, rowPushes}
 use Rattle.walks.specs.HeapRun.{offerHeap, relaxHeap}

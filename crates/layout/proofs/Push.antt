@@ -38,7 +38,7 @@ pub record Pushed (ws : List ℕ) (u : Update) (after : List ℕ) : Type 0 where
   pub inside : freeAt ws < need (nOf ws)
   pub free : getD ws (freeAt ws) 0 ≡ 0
 
-no-tidy : (n : ℕ) (u : Update) (ls : List Level) → waiting ls ≢ n → updated n u ls ≡ push u ls
+pub no-tidy : (n : ℕ) (u : Update) (ls : List Level) → waiting ls ≢ n → updated n u ls ≡ push u ls
 unfolding updated makeRoom
 no-tidy n u ls h = rw (ne-eqb (waiting ls) n h) refl
 

@@ -1,0 +1,2 @@
+-- Bounds: the bounds of some levels opened. Assumes nothing.
+pub mod Bounds

@@ -1,0 +1,2 @@
+-- Pushable: what the inner push may rely on. Assumes nothing.
+pub mod Pushable

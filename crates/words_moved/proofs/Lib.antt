@@ -1,0 +1,2 @@
+-- Turns: turns of the loops. Assumes nothing.
+pub mod Turns

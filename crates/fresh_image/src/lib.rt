@@ -7,28 +7,15 @@ ghost use Rattle.rules.specs.Pair.{IDS, levels};
 ghost use Rattle.rules.specs.Queue.{fresh};
 ghost use Rattle.layout.specs.Image.{elementsFrom, need, layOut};
 ghost use Rattle.fresh_image.specs.Bounds.{opened};
-
-// The header has six words before its rows, and a row has three.
-const HEAD: usize = 6;
-
-const ROW: usize = 3;
-
-// The update stack has three words for each id.
-const STACK: usize = 3;
-
-// Words 0, 1, 3, 4, 5 hold n, L and the offsets. Word 2, the number of waiting updates, is zero in a fresh image.
-const N_AT: usize = 0;
-
-const LEVELS_AT: usize = 1;
-
-const ELEMENTS_AT: usize = 3;
-
-const STACK_AT: usize = 4;
-
-const WORK_AT: usize = 5;
-
-// The open bound is above every pair.
-const OPEN: u64 = 1 << 56;
+use pair::Pair;
+use places::ELEMENTS_AT;
+use places::HEAD;
+use places::LEVELS_AT;
+use places::N_AT;
+use places::ROW;
+use places::STACK;
+use places::STACK_AT;
+use places::WORK_AT;
 
 // n ids have L levels, and their size, 2^L, is one more than the element words of all levels.
 pub struct Depth {
@@ -69,7 +56,7 @@ pub fn open_bounds(img: &mut [u64], levels: usize)
 {
     let mut level = 0;
     while level < levels {
-        img[HEAD + ROW * level] = OPEN;
+        img[HEAD + ROW * level] = Pair::OPEN;
         level += 1;
     }
 }

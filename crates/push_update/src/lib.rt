@@ -7,21 +7,12 @@ ghost use Rattle.layout.specs.Words.{unword};
 ghost use Rattle.layout.specs.Image.{HEAD, elementsFrom, updatesBelow};
 ghost use Rattle.layout.specs.SoundImage.{heapOf, laidBack};
 ghost use Rattle.push_update.specs.Pushable.{Pushable};
-
-// The header has six words before its rows, and a row has three.
-const HEAD: usize = 6;
-
-const ROW: usize = 3;
-
-// Word 1 holds L, word 2 the number of waiting updates, word 4 the offset of the stack.
-const LEVELS_AT: usize = 1;
-
-const WAITING_AT: usize = 2;
-
-const STACK_AT: usize = 4;
-
-// A row's last word is the level's update count.
-const UPDATES: usize = 2;
+use places::HEAD;
+use places::LEVELS_AT;
+use places::ROW;
+use places::STACK_AT;
+use places::UPDATES;
+use places::WAITING_AT;
 
 // The end of the stack that starts at `start`: the update counts of the levels 0 to levels-1 behind it.
 pub fn stack_top(img: &[u64], levels: usize, start: usize) -> usize

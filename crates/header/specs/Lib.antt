@@ -1,0 +1,2 @@
+-- Record: the header as one record. Assumes nothing.
+pub mod Record

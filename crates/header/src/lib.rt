@@ -1,0 +1,132 @@
+// The image's header as one record with its level rows: read out of an image, stored back, and one row brought up to date, by value and in place.
+// The meanings are specs/Record.antt; what the record of a sound image holds is proofs/Heap.antt.
+ghost use mathlib.Core.Path.{_≡_};
+ghost use mathlib.Core.List.{[], _∷_};
+ghost use Prim.Native.Nat.{_+_, _*_, _<_, _≤_};
+ghost use lib.ListN.{length, getD};
+ghost use lib.Seq.{sets};
+ghost use Rattle.layout.specs.Image.{HEAD, ROW};
+ghost use Rattle.header.specs.Record.{ROWS, columnOf, headerOf, wordsOf, withRow};
+
+// "The header is held as one record with its level rows (at most seventeen)": three flat arrays beside n, L and the offsets. Each field is a
+// word of the image.
+pub struct Header {
+    pub n: u64,
+    pub levels: u64,
+    pub waiting: u64,
+    pub elements_at: u64,
+    pub stack_at: u64,
+    pub work_at: u64,
+    pub bounds: [u64; Header::ROWS],
+    pub element_counts: [u64; Header::ROWS],
+    pub update_counts: [u64; Header::ROWS],
+}
+
+impl Header {
+    // the rows of a record
+    pub const ROWS: usize = 17;
+}
+
+// One column of the level rows: 0 the bounds, 1 the element counts, 2 the update counts.
+pub fn column_of(img: &[u64], column: usize, levels: usize) -> [u64; Header::ROWS]
+    requires { ⌜ (column < ROW) × (levels ≤ ROWS) × (HEAD + ROW * levels ≤ length (now img)) ⌝ }
+    ensures { λ r. ⌜ r ≡ columnOf (now (img .entry)) column levels ⌝ }
+{
+    let mut rows = [0u64; Header::ROWS];
+    let mut i = 0;
+    while i < levels {
+        rows[i] = img[places::HEAD + places::ROW * i + column];
+        i += 1;
+    }
+    rows
+}
+
+// The header of any words that have the rows they say.
+pub fn load(img: &[u64]) -> Header
+    requires { ⌜ (HEAD ≤ length (now img)) × (getD (now img) 1 0 ≤ ROWS) × (HEAD + ROW * getD (now img) 1 0 ≤ length (now img)) ⌝ }
+    ensures { λ r. ⌜ r ≡ headerOf (now (img .entry)) ⌝ }
+{
+    let levels = img[1] as usize;
+    let bounds = column_of(img, 0, levels);
+    let element_counts = column_of(img, 1, levels);
+    let update_counts = column_of(img, 2, levels);
+    Header {
+        n: img[0],
+        levels: img[1],
+        waiting: img[2],
+        elements_at: img[3],
+        stack_at: img[4],
+        work_at: img[5],
+        bounds,
+        element_counts,
+        update_counts,
+    }
+}
+
+// The three words of one level's row.
+pub fn store_row(img: &mut [u64], i: usize, bound: u64, elements: u64, updates: u64)
+    requires { ⌜ HEAD + ROW * i + ROW ≤ length (now img) ⌝ }
+    ensures { λ _. ⌜ now (img .exit) ≡ sets (now (img .entry)) (HEAD + ROW * i) (bound ∷ elements ∷ updates ∷ []) ⌝ }
+{
+    let at = places::HEAD + places::ROW * i;
+    img[at] = bound;
+    img[at + 1] = elements;
+    img[at + 2] = updates;
+}
+
+// The header stored back: its words and the rows of its levels, and no other word.
+pub fn store(img: &mut [u64], h: Header)
+    requires { ⌜ (h .levels ≤ ROWS) × (HEAD + ROW * h .levels ≤ length (now img)) ⌝ }
+    ensures { λ _. ⌜ now (img .exit) ≡ sets (now (img .entry)) 0 (wordsOf h) ⌝ }
+{
+    img[0] = h.n;
+    img[1] = h.levels;
+    img[2] = h.waiting;
+    img[3] = h.elements_at;
+    img[4] = h.stack_at;
+    img[5] = h.work_at;
+    let levels = h.levels as usize;
+    let b = h.bounds;
+    let e = h.element_counts;
+    let u = h.update_counts;
+    let mut i = 0;
+    while i < levels {
+        store_row(img, i, b[i], e[i], u[i]);
+        i += 1;
+    }
+}
+
+// One level's row anew, by value.
+pub fn with_row(h: Header, i: usize, bound: u64, elements: u64, updates: u64) -> Header
+    requires { ⌜ i < ROWS ⌝ }
+    ensures { λ r. ⌜ r ≡ withRow h i bound elements updates ⌝ }
+{
+    let mut g = h;
+    g.bounds[i] = bound;
+    g.element_counts[i] = elements;
+    g.update_counts[i] = updates;
+    g
+}
+
+// "the header is brought up to date in place": the same row behind the reference.
+pub fn set_row(h: &mut Header, i: usize, bound: u64, elements: u64, updates: u64)
+    requires { ⌜ i < ROWS ⌝ }
+    ensures { λ _. ⌜ now (h .exit) ≡ withRow (now (h .entry)) i bound elements updates ⌝ }
+{
+    *h = with_row(*h, i, bound, elements, updates);
+}
+
+// The record is lent to `set_row` for one row and handed back.
+pub fn row_changed(h: Header, i: usize, bound: u64, elements: u64, updates: u64) -> Header
+    requires { ⌜ i < ROWS ⌝ }
+    ensures { λ r. ⌜ r ≡ withRow h i bound elements updates ⌝ }
+{
+    let mut g = h;
+    set_row(&mut g, i, bound, elements, updates);
+    g
+}
+
+// The fixed numbers of the code are those of the meanings.
+fn numbers_agree()
+    ensures { λ _. do ⌜ (← ⟦Header::ROWS⟧ .entry) ≡ ROWS ⌝ }
+{}

@@ -1,5 +1,5 @@
 # The two commands: `make run` shows the main job on a shipped example, `make test` is the gate.
-.PHONY: run test setup
+.PHONY: run test bench setup
 
 # what the commands need beside the Rattle toolchain, from the distribution's packages
 setup:
@@ -13,3 +13,7 @@ test: setup
 	@scripts/check-docs
 	@scripts/compare
 	@rt ci
+
+# speed as ratios to the independent program, in one run
+bench: setup
+	@scripts/bench

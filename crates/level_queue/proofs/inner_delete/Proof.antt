@@ -1,0 +1,36 @@
+use Prim.Native.Nat.{ℕ, _+_, _-_, _*_, _≤_, _<_}
+use mathlib.Core.Path.{_≡_, refl, sym, ap, _∙_}
+use native.Mathlib.Omega.{arith}
+use borrow.Author.Needs.{needs}
+use lib.ListN.{length, getD, set, take, drop, length-set}
+use native.Mathlib.Omega.{arith}
+use mathlib.Core.Path.{_∙_}
+use Rattle.level_queue.proofs.Making.{delete-updatable, delete-pushed}
+use Rattle.level_queue.proofs.inner_delete.Statement.{statement}
+use Rattle.level_queue.proofs.inner_delete.Tie as tie
+use Rattle.level_queue.proofs.inner_delete.Reads as reads
+use Rattle.level_queue.proofs.inner_delete.Lts as lts
+use Rattle.level_queue.proofs.update.Reads as update-reads
+use Rattle.pair.proofs.Update.delete.Reads as delete-reads
+
+-- src/lib.rt:115:9
+delete-requires : tie.Need-delete-requires
+delete-requires c κs =
+    omega (arith, c .before .pre .1, c .before .pre .0 .sound .range .1)
+
+-- src/lib.rt:116:5
+update-requires : tie.Need-update-requires
+update-requires c κs =
+    let a = c .before .before .before .args in rw (c .before .delete .ensures) (delete-updatable (a .image .now) (c .before .before .before .pre .0) (a .id) (c .before .before .before .pre .1))
+
+-- src/lib.rt:111:1
+same-length : tie.Need-same-length
+same-length c = search needs
+
+-- src/lib.rt:111:1
+returns : tie.Need-returns
+returns c =
+    let a = c .before .before .before .before .before .before .args in c .before .before .update .ensures ∙ rw (c .before .before .before .before .delete .ensures) (delete-pushed (a .image .now) (c .before .before .before .before .before .before .pre .0) (a .id) (c .before .before .before .before .before .before .pre .1))
+
+pub inner-delete-spec : {M : Type 1} → statement M
+inner-delete-spec = tie.close (tie.spec delete-requires update-requires same-length returns)

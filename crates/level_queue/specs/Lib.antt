@@ -1,0 +1,3 @@
+-- Answers: what the calls' answers stand for. Updatable: what the inner update may rely on. Assumes nothing.
+pub mod Answers
+pub mod Updatable

@@ -1,0 +1,110 @@
+// The clauses of a sound image on single words and on stretches of words: zeros, element words, update words, and how many wait.
+// The meanings are Rattle.image_clauses.specs.Clauses.
+ghost use mathlib.Core.Path.{_≡_};
+ghost use mathlib.Core.List.{[], _∷_};
+ghost use Prim.Native.Nat.{_+_, _≤_};
+ghost use lib.ListN.{length};
+ghost use Rattle.plain.specs.Lists.{tally};
+ghost use Rattle.lists.specs.Put.{part};
+ghost use Rattle.rules.specs.Update.{waits};
+ghost use Rattle.layout.specs.Words.{unwords};
+ghost use Rattle.image_clauses.specs.Clauses.{Says, AllZero, PairOk, UpdateOk};
+
+// The open bound, and the number of ids.
+const OPEN: u64 = 72057594037927936;
+
+const IDS: u64 = 65536;
+
+// The kinds of updates that wait.
+const DECREASE: u64 = 1;
+
+const DELETE: u64 = 2;
+
+// Whether `count` words from `at` on are all zero.
+pub fn zeros(img: &[u64], at: usize, count: usize) -> bool
+    requires { ⌜ at + count ≤ length (now img) ⌝ }
+    ensures { λ r. ⌜ Says r (AllZero (part (now (img .entry)) at count)) ⌝ }
+{
+    let mut j = 0;
+    while j < count {
+        if img[at + j] != 0 {
+            return false;
+        }
+        j += 1;
+    }
+    true
+}
+
+// Whether p is a pair of an id below n, at least `low`, at most `high` and below the open bound.
+pub fn pair_ok(p: u64, n: u64, low: u64, high: u64) -> bool
+    ensures { λ r. ⌜ Says r (PairOk n low high p) ⌝ }
+{
+    if p % IDS >= n {
+        return false;
+    }
+    if p >= OPEN {
+        return false;
+    }
+    if p > high {
+        return false;
+    }
+    if p < low {
+        return false;
+    }
+    true
+}
+
+// Whether w is an update of an id below n, of a kind from 1 to `top`, that may wait at a level with the floor `low`.
+pub fn update_ok(w: u64, n: u64, low: u64, top: u64) -> bool
+    ensures { λ r. ⌜ Says r (UpdateOk n low top w) ⌝ }
+{
+    let kind = w / OPEN;
+    let pair = w % OPEN;
+    if kind < 1 {
+        return false;
+    }
+    if kind > top {
+        return false;
+    }
+    if w % IDS >= n {
+        return false;
+    }
+    if kind == DELETE {
+        if pair >= IDS {
+            return false;
+        }
+        return true;
+    }
+    if pair < low {
+        return false;
+    }
+    true
+}
+
+// 1 for the word of a Decrease or a Delete, 0 for any other.
+pub fn waits_one(w: u64) -> usize
+    ensures { λ r. ⌜ (r ≡ tally waits (unwords (w ∷ []))) × (r ≤ 1) ⌝ }
+{
+    let kind = w / OPEN;
+    if kind == DECREASE {
+        return 1;
+    }
+    if kind == DELETE {
+        return 1;
+    }
+    0
+}
+
+// How many of `count` words from `at` on are Decreases and Deletes.
+pub fn waiting(img: &[u64], at: usize, count: usize) -> usize
+    requires { ⌜ at + count ≤ length (now img) ⌝ }
+    ensures { λ r. ⌜ r ≡ tally waits (unwords (part (now (img .entry)) at count)) ⌝ }
+{
+    let mut found = 0;
+    let mut j = 0;
+    while j < count {
+        found += waits_one(img[at + j]);
+        j += 1;
+    }
+    found
+}

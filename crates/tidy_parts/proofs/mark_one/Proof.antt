@@ -1,0 +1,48 @@
+-- `tidy_parts::mark_one` meets its contract: the word of the update's id is stored (`mark-word`).
+-- Assumes nothing.
+use Prim.Native.Nat.{_%_, _+_}
+use mathlib.Core.Path.{refl}
+use borrow.Author.Needs.{needs}
+use Rattle.rules.specs.Pair.{OPEN, idOf}
+use Rattle.tidy_parts.proofs.Reading.{mark-word}
+use Rattle.tidy_parts.proofs.mark_one.Statement.{statement}
+use Rattle.tidy_parts.proofs.mark_one.Tie as tie
+
+add-k : tie.Need-add-k
+add-k c = search needs
+
+mul-q : tie.Need-mul-q
+mul-q c = search needs
+
+slice-read-q : tie.Need-slice-read-q
+slice-read-q c = search needs
+
+word-after-requires : tie.Need-word-after-requires
+word-after-requires c κs = search needs
+
+mul-img : tie.Need-mul-img
+mul-img c = search needs
+
+slice-write-img : tie.Need-slice-write-img
+slice-write-img c = search needs
+
+same-length : tie.Need-same-length
+same-length c = search needs
+
+returns : tie.Need-returns
+returns c =
+    let a = c .before .before .before .args in
+    mark-word (a .img .now) (a .at) (a .w) (a .at + idOf (a .w % OPEN)) (c .word-after .result) refl (c .word-after .ensures)
+
+pub mark-one-spec : {M : Type 1} → statement M
+mark-one-spec =
+    tie.close
+    (tie.spec
+    add-k
+    mul-q
+    slice-read-q
+    word-after-requires
+    mul-img
+    slice-write-img
+    same-length
+    returns)

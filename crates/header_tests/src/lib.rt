@@ -6,33 +6,18 @@ ghost use lib.ListN.{length};
 ghost use Rattle.rules.specs.Pair.{IDS, OPEN, levels};
 ghost use Rattle.layout.specs.Image.{HEAD, elementsFrom, stackWords};
 ghost use Rattle.image_clauses.specs.Clauses.{Says, MOST, Sized, HeaderOk, BoundsOk, floorOf, topKind, updatesUnder};
-
-// Words of the header before its rows, of one row, and of the update stack for each id.
-const HEAD: usize = 6;
-
-const ROW: usize = 3;
-
-const STACK: usize = 3;
+use pair::Pair;
+use pair::Update;
+use places::ELEMENTS_AT;
+use places::HEAD;
+use places::LEVELS_AT;
+use places::ROW;
+use places::STACK;
+use places::STACK_AT;
+use places::WORK_AT;
 
 // Powers of two that are tried for the number of levels.
 const TRIES: usize = 16;
-
-// The header's words, by their numbers.
-const LEVELS_AT: usize = 1;
-
-const ELEMENTS_AT: usize = 3;
-
-const STACK_AT: usize = 4;
-
-const WORK_AT: usize = 5;
-
-// The open bound.
-const OPEN: u64 = 72057594037927936;
-
-// The kinds of updates.
-const DELETE: u64 = 2;
-
-const SINK: u64 = 3;
 
 // The number of levels for n ids.
 pub fn levels_of(n: u64) -> usize
@@ -81,9 +66,9 @@ pub fn top_kind(i: usize) -> u64
     ensures { λ r. ⌜ r ≡ topKind i ⌝ }
 {
     if i == 0 {
-        return DELETE;
+        return Update::DELETE;
     }
-    SINK
+    Update::SINK
 }
 
 // Whether words 1, 3, 4 and 5 are those of n ids; `size` is 2^levels.
@@ -122,7 +107,7 @@ pub fn bounds_ok(img: &[u64], levels: usize) -> bool
         i += 1;
     }
     let last = img[HEAD + ROW * (levels - 1)];
-    if last != OPEN {
+    if last != Pair::OPEN {
         return false;
     }
     true

@@ -9,11 +9,8 @@ ghost use Rattle.image_clauses.specs.Clauses.{Says, MOST, updateCount, floorOf,
 ghost use Rattle.image_clauses.specs.Marks.{Marked, Read};
 ghost use Rattle.image_clauses.specs.Passes.{levelEntries};
 ghost use Rattle.image_clauses.specs.All.{Ready};
-
-// Words of the header before its rows, and of one row.
-const HEAD: usize = 6;
-
-const ROW: usize = 3;
+use places::HEAD;
+use places::ROW;
 
 // Whether level i is as it must be and its entries come in order. `size` is 2^i, and its updates stand from word `at` on.
 pub fn level_ok(

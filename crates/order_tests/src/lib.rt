@@ -10,16 +10,8 @@ ghost use Rattle.rules.specs.Heap.{stores};
 ghost use Rattle.layout.specs.Words.{unwords};
 ghost use Rattle.image_clauses.specs.Clauses.{Pairs, UpdateOk};
 ghost use Rattle.image_clauses.specs.Marks.{Noted, Read};
-
-// The open bound, and the number of ids.
-const OPEN: u64 = 72057594037927936;
-
-const IDS: u64 = 65536;
-
-// The kinds of updates that wait.
-const DECREASE: u64 = 1;
-
-const DELETE: u64 = 2;
+use pair::Pair;
+use pair::Update;
 
 // The marks of a last entry.
 const DELETED: u8 = 1;
@@ -31,7 +23,7 @@ pub fn note_pair(last: &mut [u8], p: u64) -> bool
     requires { ⌜ idOf p < length (now last) ⌝ }
     ensures { λ r. ⌜ Noted r (now (last .entry)) (now (last .exit)) (stores (p ∷ [])) ⌝ }
 {
-    let id = (p % IDS) as usize;
+    let id = (p % Pair::IDS) as usize;
     if last[id] >= SET {
         return false;
     }
@@ -44,13 +36,13 @@ pub fn note_update(last: &mut [u8], w: u64) -> bool
     requires { ⌜ idOf w < length (now last) ⌝ }
     ensures { λ r. ⌜ Noted r (now (last .entry)) (now (last .exit)) (unwords (w ∷ [])) ⌝ }
 {
-    let kind = w / OPEN;
-    let id = (w % IDS) as usize;
-    if kind == DECREASE {
+    let kind = w / Pair::OPEN;
+    let id = (w % Pair::IDS) as usize;
+    if kind == Update::DECREASE {
         last[id] = SET;
         return true;
     }
-    if kind == DELETE {
+    if kind == Update::DELETE {
         last[id] = DELETED;
         return true;
     }
@@ -75,7 +67,7 @@ pub fn read_pairs(
     let mut j = 0;
     while j < count {
         let p = img[at + j];
-        let id = p % IDS;
+        let id = p % Pair::IDS;
         if id < next {
             return false;
         }

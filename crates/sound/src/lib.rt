@@ -9,23 +9,13 @@ ghost use Rattle.image_clauses.specs.Clauses.{Says, Sized};
 ghost use Rattle.image_clauses.specs.All.{Ready, InOrder, Shape, Contents};
 ghost use Rattle.sound.specs.Answer.{verdictOf};
 ghost use Rattle.sound.specs.Tables.{SMALL, MIDDLE};
-
-// Words of the header before its rows, of one row, and of the update stack for each id; the fewest words that an image has.
-const HEAD: usize = 6;
-
-const ROW: usize = 3;
-
-const STACK: usize = 3;
-
-const SMALLEST: usize = 14;
-
-// The words of the header that are read here, by their numbers.
-const N_AT: usize = 0;
-
-const WAITING_AT: usize = 2;
-
-// The largest number of ids.
-const IDS: u64 = 65536;
+use pair::Pair;
+use places::HEAD;
+use places::N_AT;
+use places::ROW;
+use places::SMALLEST;
+use places::STACK;
+use places::WAITING_AT;
 
 // The places of the three tables of last entries.
 const SMALL: usize = 256;
@@ -133,7 +123,7 @@ pub fn judge(img: &[u64]) -> Verdict
     if n < 1 {
         return Verdict::NotSound;
     }
-    if n > IDS {
+    if n > Pair::IDS {
         return Verdict::NotSound;
     }
     let ids = n as usize;

@@ -9,16 +9,8 @@ ghost use Rattle.lists.specs.Put.{part};
 ghost use Rattle.rules.specs.Update.{waits};
 ghost use Rattle.layout.specs.Words.{unwords};
 ghost use Rattle.image_clauses.specs.Clauses.{Says, AllZero, PairOk, UpdateOk};
-
-// The open bound, and the number of ids.
-const OPEN: u64 = 72057594037927936;
-
-const IDS: u64 = 65536;
-
-// The kinds of updates that wait.
-const DECREASE: u64 = 1;
-
-const DELETE: u64 = 2;
+use pair::Pair;
+use pair::Update;
 
 // Whether `count` words from `at` on are all zero.
 pub fn zeros(img: &[u64], at: usize, count: usize) -> bool
@@ -39,10 +31,10 @@ pub fn zeros(img: &[u64], at: usize, count: usize) -> bool
 pub fn pair_ok(p: u64, n: u64, low: u64, high: u64) -> bool
     ensures { λ r. ⌜ Says r (PairOk n low high p) ⌝ }
 {
-    if p % IDS >= n {
+    if p % Pair::IDS >= n {
         return false;
     }
-    if p >= OPEN {
+    if p >= Pair::OPEN {
         return false;
     }
     if p > high {
@@ -58,19 +50,19 @@ pub fn pair_ok(p: u64, n: u64, low: u64, high: u64) -> bool
 pub fn update_ok(w: u64, n: u64, low: u64, top: u64) -> bool
     ensures { λ r. ⌜ Says r (UpdateOk n low top w) ⌝ }
 {
-    let kind = w / OPEN;
-    let pair = w % OPEN;
+    let kind = w / Pair::OPEN;
+    let pair = w % Pair::OPEN;
     if kind < 1 {
         return false;
     }
     if kind > top {
         return false;
     }
-    if w % IDS >= n {
+    if w % Pair::IDS >= n {
         return false;
     }
-    if kind == DELETE {
-        if pair >= IDS {
+    if kind == Update::DELETE {
+        if pair >= Pair::IDS {
             return false;
         }
         return true;
@@ -85,11 +77,11 @@ pub fn update_ok(w: u64, n: u64, low: u64, top: u64) -> bool
 pub fn waits_one(w: u64) -> usize
     ensures { λ r. ⌜ (r ≡ tally waits (unwords (w ∷ []))) × (r ≤ 1) ⌝ }
 {
-    let kind = w / OPEN;
-    if kind == DECREASE {
+    let kind = w / Pair::OPEN;
+    if kind == Update::DECREASE {
         return 1;
     }
-    if kind == DELETE {
+    if kind == Update::DELETE {
         return 1;
     }
     0

@@ -11,11 +11,14 @@ ghost use Rattle.rules.specs.Rebuild.{deal, tidy};
 ghost use Rattle.layout.specs.SoundImage.{nOf, heapOf, laidBack, SoundImage};
 ghost use Rattle.tidy_parts.specs.Marks.{codes};
 ghost use Rattle.tidy.specs.Places.{Offsets, levelsStored, Dealable};
-
-// The header's words before the rows, and those of one row.
-const HEAD: usize = 6;
-
-const ROW: usize = 3;
+use places::ELEMENTS_AT;
+use places::HEAD;
+use places::LEVELS_AT;
+use places::N_AT;
+use places::ROW;
+use places::STACK_AT;
+use places::WAITING_AT;
+use places::WORK_AT;
 
 // The whole reading into the work area: the deepest level first.
 fn mark_levels(img: &mut [u64], depth: usize, first: usize, stack: usize, work: usize)
@@ -54,15 +57,15 @@ pub fn tidy(img: &mut [u64])
     requires { ⌜ SoundImage (now img) ⌝ }
     ensures { λ _. ⌜ now (img .exit) ≡ laidBack (now (img .entry)) (tidy (nOf (now (img .entry))) (heapOf (now (img .entry)))) ⌝ }
 {
-    let n = img[0] as usize;
-    let depth = img[1] as usize;
-    let first = img[3] as usize;
-    let stack = img[4] as usize;
-    let work = img[5] as usize;
+    let n = img[N_AT] as usize;
+    let depth = img[LEVELS_AT] as usize;
+    let first = img[ELEMENTS_AT] as usize;
+    let stack = img[STACK_AT] as usize;
+    let work = img[WORK_AT] as usize;
     mark_levels(img, depth, first, stack, work);
     let m = tidy_parts::squeeze(img, work, n, first);
     words_moved::clear(img, stack, 4 * n);
     tidy_parts::sort_part(img, first, m);
     deal_levels(img, depth, first, m);
-    img[2] = 0;
+    img[WAITING_AT] = 0;
 }

@@ -13,15 +13,8 @@ ghost use Rattle.sorting.specs.ById.{sortId};
 ghost use Rattle.layout.specs.Words.{ofKind, unword};
 ghost use Rattle.tidy_parts.specs.Marks.{code, uncode, mark, marked, entries, Placed, Readable, ReadsLevel, SqueezesOne, Squeezes};
 ghost use Rattle.tidy_parts.specs.Dealt.{DealsLevel};
-
-// The open bound, the number of ids, and the kinds of updates.
-const OPEN: u64 = 1 << 56;
-
-const IDS: u64 = 65536;
-
-const DECREASE: u64 = 1;
-
-const DELETE: u64 = 2;
+use pair::Pair;
+use pair::Update;
 
 // A pair with this added is the word of its Sink.
 const SINK: u64 = 3 << 56;
@@ -45,10 +38,10 @@ fn word_after(q: u64, kind: u64, p: u64) -> u64
     requires { ⌜ p < OPEN ⌝ }
     ensures { λ r. ⌜ r ≡ code (act (uncode q) (ofKind kind p)) ⌝ }
 {
-    if kind == DELETE {
+    if kind == Update::DELETE {
         return 0;
     }
-    if kind == DECREASE {
+    if kind == Update::DECREASE {
         return lowered(q, p);
     }
     p + 1
@@ -59,10 +52,10 @@ fn mark_one(img: &mut [u64], at: usize, w: u64)
     requires { ⌜ at + idOf (w % OPEN) < length (now img) ⌝ }
     ensures { λ _. ⌜ now (img .exit) ≡ mark (now (img .entry)) at (unword w) ⌝ }
 {
-    let p = w % OPEN;
-    let k = at + (p % IDS) as usize;
+    let p = w % Pair::OPEN;
+    let k = at + (p % Pair::IDS) as usize;
     let q = img[k];
-    img[k] = word_after(q, w / OPEN, p);
+    img[k] = word_after(q, w / Pair::OPEN, p);
 }
 
 // The n words from `from` on, each with the tag added, read into the words from `at` on.
@@ -153,7 +146,7 @@ fn bound_of(img: &[u64], from: usize, width: usize, left: usize) -> u64
     ensures { λ r. ⌜ r ≡ dealtBound OPEN (take width (part (now (img .entry)) from left)) (drop width (part (now (img .entry)) from left)) ⌝ }
 {
     if left <= width {
-        return OPEN;
+        return Pair::OPEN;
     }
     img[from + (width - 1)]
 }

@@ -11,4 +11,5 @@ pub mod numbers;
 pub mod plain;
 #[cfg(feature = "proved")]
 pub mod proved;
+pub mod reading;
 pub mod sound;

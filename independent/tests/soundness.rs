@@ -2,6 +2,7 @@
 
 use independent::generate::{break_clause, damage, size, sound_image, Parts, Random};
 use independent::numbers::*;
+use independent::reading::plain_reading;
 use independent::sound::{broken_clauses, sound_by_clauses, verdict, Clause, Failure, Verdict};
 use std::collections::BTreeSet;
 
@@ -48,6 +49,7 @@ fn both_tests_agree_on_damaged_words() {
             words.extend([u64::MAX, 0, 5]);
         }
         assert_eq!(verdict(&words), slow(&words), "n = {n}: {words:?}");
+        assert_eq!(plain_reading(&words), slow(&words), "n = {n}: {words:?}");
         sound += u32::from(slow(&words) == Verdict::Good);
     }
     assert!(

@@ -5,6 +5,7 @@ use independent::generate::Random;
 use independent::harness::Judged;
 use independent::image::{self, need};
 use independent::numbers::*;
+use independent::reading::plain_reading;
 use independent::sound::{verdict, Verdict};
 use std::hint::black_box;
 use std::time::Instant;
@@ -24,6 +25,7 @@ fn main() {
     );
     for n in [1_024, 65_536] {
         soundness(n);
+        soundness_plainly(n);
     }
     for n in [1_024, 65_536] {
         fresh(n);
@@ -40,6 +42,19 @@ fn soundness(n: u64) {
     let name = format!("soundness, n = {n}");
     let mut mine = |image: &mut [u64]| {
         black_box(verdict(black_box(image)));
+    };
+    with_proved(&name, &half_full(n), &mut mine, |side| {
+        Box::new(move |image| {
+            black_box(side.judge(black_box(image)));
+        })
+    });
+}
+
+/// The same single reading without a proof: what the proof costs.
+fn soundness_plainly(n: u64) {
+    let name = format!("  by one plain reading, n = {n}");
+    let mut mine = |image: &mut [u64]| {
+        black_box(plain_reading(black_box(image)));
     };
     with_proved(&name, &half_full(n), &mut mine, |side| {
         Box::new(move |image| {

@@ -23,7 +23,7 @@ pub fn note_pair(last: &mut [u8], p: u64) -> bool
     requires { ⌜ idOf p < length (now last) ⌝ }
     ensures { λ r. ⌜ Noted r (now (last .entry)) (now (last .exit)) (stores (p ∷ [])) ⌝ }
 {
-    let id = (p % Pair::IDS) as usize;
+    let id = Pair::id(p) as usize;
     if last[id] >= SET {
         return false;
     }
@@ -36,8 +36,8 @@ pub fn note_update(last: &mut [u8], w: u64) -> bool
     requires { ⌜ idOf w < length (now last) ⌝ }
     ensures { λ r. ⌜ Noted r (now (last .entry)) (now (last .exit)) (unwords (w ∷ [])) ⌝ }
 {
-    let kind = w / Pair::OPEN;
-    let id = (w % Pair::IDS) as usize;
+    let kind = Update::kind(w);
+    let id = Pair::id(w) as usize;
     if kind == Update::DECREASE {
         last[id] = SET;
         return true;
@@ -67,7 +67,7 @@ pub fn read_pairs(
     let mut j = 0;
     while j < count {
         let p = img[at + j];
-        let id = p % Pair::IDS;
+        let id = Pair::id(p);
         if id < next {
             return false;
         }

@@ -31,7 +31,7 @@ pub fn zeros(img: &[u64], at: usize, count: usize) -> bool
 pub fn pair_ok(p: u64, n: u64, low: u64, high: u64) -> bool
     ensures { λ r. ⌜ Says r (PairOk n low high p) ⌝ }
 {
-    if p % Pair::IDS >= n {
+    if Pair::id(p) >= n {
         return false;
     }
     if p >= Pair::OPEN {
@@ -50,15 +50,15 @@ pub fn pair_ok(p: u64, n: u64, low: u64, high: u64) -> bool
 pub fn update_ok(w: u64, n: u64, low: u64, top: u64) -> bool
     ensures { λ r. ⌜ Says r (UpdateOk n low top w) ⌝ }
 {
-    let kind = w / Pair::OPEN;
-    let pair = w % Pair::OPEN;
+    let kind = Update::kind(w);
+    let pair = Update::pair_of(w);
     if kind < 1 {
         return false;
     }
     if kind > top {
         return false;
     }
-    if w % Pair::IDS >= n {
+    if Pair::id(w) >= n {
         return false;
     }
     if kind == Update::DELETE {
@@ -77,7 +77,7 @@ pub fn update_ok(w: u64, n: u64, low: u64, top: u64) -> bool
 pub fn waits_one(w: u64) -> usize
     ensures { λ r. ⌜ (r ≡ tally waits (unwords (w ∷ []))) × (r ≤ 1) ⌝ }
 {
-    let kind = w / Pair::OPEN;
+    let kind = Update::kind(w);
     if kind == Update::DECREASE {
         return 1;
     }

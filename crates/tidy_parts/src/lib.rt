@@ -52,10 +52,10 @@ fn mark_one(img: &mut [u64], at: usize, w: u64)
     requires { ⌜ at + idOf (w % OPEN) < length (now img) ⌝ }
     ensures { λ _. ⌜ now (img .exit) ≡ mark (now (img .entry)) at (unword w) ⌝ }
 {
-    let p = w % Pair::OPEN;
-    let k = at + (p % Pair::IDS) as usize;
+    let p = Update::pair_of(w);
+    let k = at + Pair::id(p) as usize;
     let q = img[k];
-    img[k] = word_after(q, w / Pair::OPEN, p);
+    img[k] = word_after(q, Update::kind(w), p);
 }
 
 // The n words from `from` on, each with the tag added, read into the words from `at` on.

@@ -1,1 +1,3 @@
+-- Numbered, MinNumbered: answers by their numbers. Assumes nothing.
 pub mod Numbered
+pub mod MinNumbered

@@ -26,7 +26,7 @@ pub struct Depth {
 // Doubles from 1 on until n is reached: L is one more than the doublings.
 pub fn depth_of(n: usize) -> Depth
     requires { ⌜ n ≤ IDS ⌝ }
-    ensures { λ r. ⌜ (r .levels ≡ levels n) × (r .size ≡ 2 ^ levels n) × (1 ≤ r .levels) × (r .levels ≤ 17) × (r .size ≤ 131072) ⌝ }
+    ensures { λ r. ⌜ (r .levels ≡ levels n) × (r .size ≡ 2 ^ levels n) × (1 ≤ r .levels) × (r .levels ≤ 17) × (r .size ≤ 131072) × (1 ≤ r .size) ⌝ }
 {
     let mut i = 0;
     let mut half = 1;

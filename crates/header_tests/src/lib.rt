@@ -1,4 +1,4 @@
-// An image's header: how many levels n ids have, what may lie at a level, and the clauses on the header's words and level rows.
+// An image's header: what may lie at a level, and the clauses on the header's words and level rows.
 // The meanings are Rattle.image_clauses.specs.Clauses.
 ghost use mathlib.Core.Path.{_≡_};
 ghost use Prim.Native.Nat.{_+_, _*_, _<_, _≤_, _^_, min};
@@ -15,40 +15,6 @@ use places::ROW;
 use places::STACK;
 use places::STACK_AT;
 use places::WORK_AT;
-
-// Powers of two that are tried for the number of levels.
-const TRIES: usize = 16;
-
-// The number of levels for n ids.
-pub fn levels_of(n: u64) -> usize
-    requires { ⌜ n ≤ IDS ⌝ }
-    ensures { λ r. ⌜ (r ≡ levels n) × (1 ≤ r) × (r ≤ MOST) ⌝ }
-{
-    let mut i = 0;
-    let mut half = 1;
-    while i < TRIES {
-        if n <= half {
-            return i + 1;
-        }
-        half = 2 * half;
-        i += 1;
-    }
-    i + 1
-}
-
-// 2^i.
-pub fn power(i: usize) -> usize
-    requires { ⌜ i ≤ MOST ⌝ }
-    ensures { λ r. ⌜ (r ≡ 2 ^ i) × (1 ≤ r) × (r ≤ 2 ^ MOST) ⌝ }
-{
-    let mut k = 0;
-    let mut p = 1;
-    while k < i {
-        p = 2 * p;
-        k += 1;
-    }
-    p
-}
 
 // The least pair that may lie at level i: past the bound of the level before.
 pub fn floor_of(img: &[u64], i: usize) -> u64

@@ -1,13 +1,15 @@
 -- What is laid out is read out again, and has the length that the page states; a push changes three words.
 -- Assumes nothing.
 use Prim.Native.Nat.{ℕ, zero, suc, _+_, _-_, _*_, _^_, _/_, _%_, _<_, _≤_}
+use mathlib.Core.Bool.{Bool, true, false, cond}
 use mathlib.Core.Path.{_≡_, refl, sym, ap, _∙_}
 use mathlib.Core.List.{List, [], _∷_, _++_, append-assoc}
 use native.Mathlib.Omega.{arith}
 use native.Mathlib.Nat.{pow-suc}
+use lib.Dec.{eqb}
 use lib.ListN.{length, take, drop, getD, replicate, length-append, length-replicate, set}
 use lib.Seq.{take-at, drop-at, set-at, getD-at}
-use Rattle.rules.specs.Update.{Update, decrease, delete, sink}
+use Rattle.rules.specs.Update.{Update, decrease, delete, sink, pairIn}
 use Rattle.rules.specs.Heap.{stores, Level, reading, waiting}
 use Rattle.rules.specs.Pair.{OPEN, levels}
 use Rattle.plain.specs.Lists.{Every, pad}
@@ -34,6 +36,15 @@ unword-word n (sink p) v =
     let e : (3 * OPEN + p) / OPEN ≡ 3 = omega (arith, v .0 .1) in
     let f : (3 * OPEN + p) % OPEN ≡ p = omega (arith, v .0 .1) in
     rw (e, f) refl
+
+-- the pair of an update word, whatever its kind
+pub pair-unword : (w : ℕ) → pairIn (unword w) ≡ w % OPEN
+pair-unword w = go (eqb (w / OPEN) 1) (eqb (w / OPEN) 2)
+  where
+    go : (a b : Bool) → pairIn (cond a (decrease (w % OPEN)) (cond b (delete (w % OPEN)) (sink (w % OPEN)))) ≡ w % OPEN
+    go true b = refl
+    go false true = refl
+    go false false = refl
 
 pub unwords-words : (n : ℕ) (us : List Update) → Every (ValidU n) us → unwords (words us) ≡ us
 unwords-words n [] v = refl

@@ -10,13 +10,18 @@ use borrow.Author.Tests.{le-leb, lt-leb, lt-ltb, le-ltb, eq-eqb, ne-eqb}
 use lib.Dec.{leb, ltb, eqb}
 use lib.ListN.{length, drop}
 use Rattle.rules.specs.Pair.{IDS, KEYS, pairOf, levels}
-use Rattle.rules.specs.Update.{decrease, delete}
-use Rattle.rules.specs.Queue.{fresh}
+use Rattle.rules.specs.Update.{Held, absent, held, decrease, delete}
+use Rattle.rules.specs.Queue.{fresh, deleteMin}
 use Rattle.layout.specs.Image.{need, layOut}
-use Rattle.layout.specs.SoundImage.{nOf, SoundImage, Verdict, tooShort, notSound, good, Judged}
-use Rattle.layout.specs.Calls.{taken, refused, Outcome, refuse, freshCall, judgedCall, pushCall, decreaseCall, deleteCall, ByVerdict}
+use Rattle.layout.specs.SoundImage.{nOf, heapOf, laidBack, SoundImage, Verdict, tooShort, notSound, good, Judged}
+use Rattle.layout.specs.Calls.{taken, refused, Outcome, refuse, freshCall, judgedCall, pushCall, decreaseCall, deleteCall, replyOf, deleteMinCall, ByVerdict}
 use Rattle.sound.specs.Answer.{numberOf}
+use Rattle.delete_min.specs.declared.Popped.{Popped}
+use Rattle.delete_min.specs.Takes.{popped, Takes}
 use Rattle.level_queue.specs.Answers.{Refusal}
+use Rattle.level_queue.specs.declared.MinAnswer.{MinAnswer}
+use Rattle.level_queue.specs.declared.MinAnswer.the-variants.{Refused}
+use Rattle.level_queue.specs.MinAnswers.{minAnswer, givenOf, MinOutcome}
 
 -- ---- the verdict
 
@@ -83,6 +88,35 @@ module _ (ws : List ℕ) (id : ℕ) where
     pub delete-taken : id < nOf ws → (after : List ℕ) → after ≡ (pushCall ws (delete id)) .image → Deleted (record { reply = taken; image = after })
     unfolding deleteCall pushCall
     delete-taken h after e = (good, s, rw (lt-leb (nOf ws) id h, e) refl)
+
+-- ---- Delete-Min
+
+module _ (ws : List ℕ) where
+  pub min-unsound : (k : ℕ) → Refusal ws k → k ≢ 0 → MinOutcome ws (Refused k) ws
+  unfolding deleteMinCall
+  min-unsound k r h =
+      let a = deleteMin (heapOf ws) in
+      record {
+        outcome = refuse k ws;
+        judged = refused-first ws k r h (record { reply = replyOf (a .pair) (a .reach); image = laidBack ws (a .after) });
+        answer = refl;
+        words = refl;
+      }
+
+  pub min-given : SoundImage ws → (p : Popped) (after : List ℕ) → Takes p ws after → (r : MinAnswer) → r ≡ givenOf p → MinOutcome ws r after
+  unfolding deleteMinCall
+  min-given s p after t r e =
+      let a = deleteMin (heapOf ws) in
+      record {
+        outcome = record { reply = replyOf (a .pair) (a .reach); image = laidBack ws (a .after) };
+        judged = (good, s, refl);
+        answer = e ∙ ap givenOf (t .answer) ∙ same (a .pair) (a .reach);
+        words = t .words;
+      }
+    where
+      same : (h : Held) (reach : ℕ) → givenOf (popped h reach) ≡ minAnswer (replyOf h reach)
+      same absent reach = refl
+      same (held p) reach = refl
 
 -- ---- fresh
 

@@ -9,20 +9,27 @@ ghost use Rattle.layout.specs.Words.{unword};
 ghost use Rattle.layout.specs.SoundImage.{nOf, heapOf, laidBack, SoundImage};
 ghost use Rattle.layout.specs.Calls.{freshCall, pushCall, decreaseCall, deleteCall, ByVerdict};
 ghost use Rattle.sound.specs.Answer.{verdictOf, numberOf};
+ghost use Rattle.delete_min.specs.Takes.{Takes};
 ghost use Rattle.level_queue.specs.Answers.{outcome, Refusal};
+ghost use Rattle.level_queue.specs.MinAnswers.{givenOf, MinOutcome};
 ghost use Rattle.level_queue.specs.Updatable.{Updatable};
+use delete_min::Popped;
 use pair::Pair;
 use pair::Update;
+use places::N_AT;
+use places::WAITING_AT;
 use sound::Verdict;
-
-// Words 0 and 2 of an image: n, and how many Decreases and Deletes wait.
-const N_AT: usize = 0;
-
-const WAITING_AT: usize = 2;
 
 // "These two, and the making of a fresh image, answer only that they were taken." "A refusal returns its number alone."
 pub enum Answer {
     Taken,
+    Refused(u64),
+}
+
+// "The smallest is the answer", with the reach; "If no level holds one, the answer is empty"; or the refusal.
+pub enum MinAnswer {
+    Min { id: u64, key: u64, reach: u64 },
+    Empty { reach: u64 },
     Refused(u64),
 }
 
@@ -78,6 +85,28 @@ pub fn delete(image: &mut [u64], id: u64) -> Answer
     Answer::Taken
 }
 
+// Takes the smallest live pair out: its id and key, and how many levels were visited for it. Refusals 2, 3.
+pub fn delete_min(image: &mut [u64]) -> MinAnswer
+    ensures { λ r. ⌜ MinOutcome (now (image .entry)) r (now (image .exit)) ⌝ }
+{
+    let k = refusal(image);
+    if k != 0 {
+        return MinAnswer::Refused(k);
+    }
+    let p = inner_delete_min(image);
+    given(p)
+}
+
+// The inner call's answer as the outward one's.
+pub fn given(p: Popped) -> MinAnswer
+    ensures { λ r. ⌜ r ≡ givenOf p ⌝ }
+{
+    match p {
+        Popped::Min { id, key, reach } => MinAnswer::Min { id, key, reach },
+        Popped::Empty { reach } => MinAnswer::Empty { reach },
+    }
+}
+
 // Refusals 2 and 3 of a slice, or 0 where it holds a sound image.
 pub fn refusal(image: &[u64]) -> u64
     ensures { λ r. ⌜ Refusal (now (image .entry)) r ⌝ }
@@ -114,6 +143,13 @@ pub fn inner_delete(image: &mut [u64], id: u64)
 {
     let w = Update::delete(id);
     update(image, w);
+}
+
+pub fn inner_delete_min(image: &mut [u64]) -> Popped
+    requires { ⌜ SoundImage (now image) ⌝ }
+    ensures { λ r. ⌜ Takes r (now (image .entry)) (now (image .exit)) ⌝ }
+{
+    delete_min::delete_min(image)
 }
 
 // The word of a Decrease or Delete pushed at level 0, with room made for it first.

@@ -127,8 +127,9 @@ pub fn judge(img: &[u64]) -> Verdict
         return Verdict::NotSound;
     }
     let ids = n as usize;
-    let levels = header_tests::levels_of(n);
-    let size = header_tests::power(levels);
+    let depth = fresh_image::depth_of(ids);
+    let levels = depth.levels;
+    let size = depth.size;
     if img.len() < HEAD + ROW * levels + (size - 1) + STACK * ids + ids {
         return Verdict::TooShort;
     }

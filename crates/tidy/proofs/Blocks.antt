@@ -1,27 +1,14 @@
--- Lists made of blocks, and the words of levels that are joined.
+-- Blocks grouped anew, and the words of levels that are joined.
 -- Assumes nothing.
-use Prim.Native.Nat.{ℕ, suc, _+_, _^_, _≤_}
+use Prim.Native.Nat.{ℕ, suc, _+_, _^_}
 use mathlib.Core.Path.{_≡_, refl, sym, ap, _∙_}
 use mathlib.Core.List.{List, [], _∷_, _++_, append-assoc, append-nil}
 use native.Mathlib.Omega.{arith}
-use lib.ListN.{length, drop, length-append}
-use lib.Seq.{sets, sets-eq, take-at, drop-at, drop-drop}
+use lib.ListN.{length}
 use Rattle.plain.specs.Lists.{pad}
-use Rattle.lists.specs.Put.{part}
 use Rattle.rules.specs.Heap.{Level}
 use Rattle.layout.specs.Words.{words}
 use Rattle.layout.specs.Image.{rowWords, elementWords, stack}
-
--- the block behind A
-pub part-at : (A B C : List ℕ) (at n : ℕ) → length A ≡ at → length B ≡ n → part (A ++ (B ++ C)) at n ≡ B
-part-at A B C at n e f = rw (drop-at A (B ++ C) at e) (take-at B C n f)
-
--- the block behind A stored over
-pub put-at : (A B B′ C : List ℕ) (at : ℕ) → length A ≡ at → length B ≡ length B′ → sets (A ++ (B ++ C)) at B′ ≡ A ++ (B′ ++ C)
-put-at A B B′ C at e f =
-    let h : at + length B′ ≤ length (A ++ (B ++ C)) = omega (arith, length-append A (B ++ C), length-append B C) in
-    let d : drop (at + length B′) (A ++ (B ++ C)) ≡ C = sym (drop-drop (length B′) at (A ++ (B ++ C))) ∙ rw (drop-at A (B ++ C) at e) (drop-at B C (length B′) f) in
-    rw (sets-eq B′ (A ++ (B ++ C)) at h, take-at A (B ++ C) at e, d) (simp append-assoc)
 
 -- blocks grouped anew
 pub group-four : (A B C D E : List ℕ) → A ++ (B ++ (C ++ (D ++ E))) ≡ (((A ++ B) ++ C) ++ D) ++ E

@@ -1,4 +1,4 @@
--- Blocks: lists made of blocks, and the words of levels joined. Standing: where a level's words stand in a sound image. Marking: the whole
+-- Blocks: the words of levels joined. Standing: where a level's words stand in a sound image. Marking: the whole
 -- reading. Filling: levels dealt. Whole: all of tidy. Assumes nothing.
 pub mod Blocks
 pub mod Standing

@@ -10,6 +10,7 @@ use lib.ListN.{length, getD, take, drop, replicate, length-append, length-replic
 use lib.Seq.{getD-append-add, length-take-le}
 use Rattle.plain.specs.Lists.{pad}
 use Rattle.lists.specs.Put.{part}
+use Rattle.lists.specs.Blocks.{part-at}
 use Rattle.rules.specs.Pair.{levels}
 use Rattle.rules.specs.Update.{Update}
 use Rattle.rules.specs.Heap.{Level, boundAt, elementsAt, updatesAt, waiting}
@@ -21,7 +22,7 @@ use Rattle.rules.proofs.Soundness.{sound-firm}
 use Rattle.layout.specs.Words.{words}
 use Rattle.layout.specs.Image.{HEAD, ROW, elementsFrom, stackFrom, workFrom, stackWords, headWords, rowWords, elementWords, stack, layOut}
 use Rattle.layout.proofs.Image.{length-rows, length-pad, length-words, stack-fits, elements-size, rows-size}
-use Rattle.tidy.proofs.Blocks.{part-at, group-four, group-inner, rows-append, elements-append, stack-append}
+use Rattle.tidy.proofs.Blocks.{group-four, group-inner, rows-append, elements-append, stack-append}
 
 -- ---- a list of levels at level i
 

@@ -8,6 +8,7 @@ use lib.ListN.{length, getD, set, drop, replicate, length-append, length-replica
 use lib.Seq.{sets, length-sets}
 use Rattle.plain.specs.Lists.{sort, pad}
 use Rattle.lists.specs.Put.{part, put-append, put-comm}
+use Rattle.lists.specs.Blocks.{put-at}
 use Rattle.lists.specs.Part.{part-put-same, part-put-behind, put-over}
 use Rattle.rules.specs.Pair.{OPEN, levels}
 use Rattle.rules.specs.Heap.{Level, live, waiting}
@@ -26,7 +27,6 @@ use Rattle.tidy_parts.specs.Marks.{codes, squeezed, Squeezes}
 use Rattle.tidy_parts.proofs.Reading.{length-codes}
 use Rattle.tidy_parts.proofs.Squeezing.{squeezed-codes}
 use Rattle.tidy.specs.Places.{Offsets, levelsStored, Dealable}
-use Rattle.tidy.proofs.Blocks.{put-at}
 use Rattle.tidy.proofs.Filling.{stack-dealt}
 use Rattle.tidy.proofs.Standing.{whole, before-elements, before-stack}
 

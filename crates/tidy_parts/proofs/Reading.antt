@@ -1,7 +1,7 @@
 -- Entries read into words: a turn of the loop, what stays as it was, and what the words then hold of each id.
 -- Assumes nothing.
-use Prim.Native.Nat.{ℕ, zero, suc, _+_, _/_, _%_, _<_, _≤_, min}
-use mathlib.Core.Bool.{Bool, true, false, cond}
+use Prim.Native.Nat.{ℕ, zero, suc, _+_, _%_, _<_, _≤_, min}
+use mathlib.Core.Bool.{Bool, true, false}
 use mathlib.Core.Logic.{_≢_}
 use mathlib.Core.Path.{_≡_, refl, sym, ap, _∙_}
 use mathlib.Core.List.{List, [], _∷_, _++_, append-assoc}
@@ -15,10 +15,11 @@ use Rattle.plain.specs.Lists.{Every, keep}
 use Rattle.lists.specs.Put.{part, part-suc, length-part}
 use Rattle.lists.specs.Part.{getD-part, part-set-behind}
 use Rattle.rules.specs.Pair.{OPEN, idOf}
-use Rattle.rules.specs.Update.{Held, absent, held, Update, decrease, delete, sink, pairIn, idIn, act, reads}
+use Rattle.rules.specs.Update.{Held, absent, held, Update, decrease, sink, idIn, act, reads}
 use Rattle.rules.specs.Heap.{stores, only}
 use Rattle.rules.specs.Firm.{Valid, ValidU}
 use Rattle.rules.proofs.Sort.{every-at}
+use Rattle.layout.proofs.Image.{pair-unword}
 use Rattle.layout.specs.Words.{word, words, ofKind, unword}
 use Rattle.layout.proofs.Image.{unword-word}
 use Rattle.tidy_parts.specs.Marks.{code, uncode, mark, marked, entries, codes, SINK, Placed, levelEntries, Readable}
@@ -28,15 +29,6 @@ use Rattle.tidy_parts.specs.Marks.{code, uncode, mark, marked, entries, 
 pub uncode-code : (h : Held) → uncode (code h) ≡ h
 uncode-code absent = refl
 uncode-code (held p) = refl
-
--- the pair of an update word, whatever its kind
-pub pair-unword : (w : ℕ) → pairIn (unword w) ≡ w % OPEN
-pair-unword w = go (eqb (w / OPEN) 1) (eqb (w / OPEN) 2)
-  where
-    go : (a b : Bool) → pairIn (cond a (decrease (w % OPEN)) (cond b (delete (w % OPEN)) (sink (w % OPEN)))) ≡ w % OPEN
-    go true b = refl
-    go false true = refl
-    go false false = refl
 
 -- what `lowered` answers
 pub lowered-entered : (q p : ℕ) → q ≡ 0 → p + 1 ≡ code (act (uncode q) (decrease p))

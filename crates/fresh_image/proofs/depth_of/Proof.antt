@@ -1,3 +1,4 @@
+use Rattle.rules.proofs.Refill.{pos-pow}
 -- The search for L: half is 2^i, and L is what the tries from there on give.
 -- Assumes nothing.
 use Prim.Native.Nat.{ℕ, _+_, _-_, _≤_, _<_, _^_}
@@ -54,6 +55,7 @@ returns c =
       omega arith,
       omega arith,
       omega arith,
+      omega (arith, pos-pow (l .i)),
     )
 
 pub depth-of-spec : {M : Type 1} → statement M

@@ -5,47 +5,36 @@ use Rattle.header.specs.Record.{headerOf}
 use Rattle.header.proofs.load.Statement.{statement}
 use Rattle.header.proofs.load.Tie as tie
 
--- src/lib.rt:52:18
 shared-slice-read-levels : tie.Need-shared-slice-read-levels
 shared-slice-read-levels c = search needs
 
--- src/lib.rt:53:9
 column-of-requires : tie.Need-column-of-requires
 column-of-requires c κs = search needs
 
--- src/lib.rt:54:9
 column-of-requires-2 : tie.Need-column-of-requires-2
 column-of-requires-2 c κs = search needs
 
--- src/lib.rt:55:9
 column-of-requires-3 : tie.Need-column-of-requires-3
 column-of-requires-3 c κs = search needs
 
--- src/lib.rt:57:12
 shared-slice-read-t7 : tie.Need-shared-slice-read-t7
 shared-slice-read-t7 c = search needs
 
--- src/lib.rt:58:17
 shared-slice-read-t10 : tie.Need-shared-slice-read-t10
 shared-slice-read-t10 c = search needs
 
--- src/lib.rt:59:18
 shared-slice-read-t12 : tie.Need-shared-slice-read-t12
 shared-slice-read-t12 c = search needs
 
--- src/lib.rt:60:22
 shared-slice-read-t14 : tie.Need-shared-slice-read-t14
 shared-slice-read-t14 c = search needs
 
--- src/lib.rt:61:19
 shared-slice-read-t16 : tie.Need-shared-slice-read-t16
 shared-slice-read-t16 c = search needs
 
--- src/lib.rt:62:18
 shared-slice-read-t18 : tie.Need-shared-slice-read-t18
 shared-slice-read-t18 c = search needs
 
--- src/lib.rt:48:1
 returns : tie.Need-returns
 unfolding headerOf
 returns c =

@@ -19,71 +19,54 @@ Inv-loop img₀ levels b e u i₀ img i = (i ≤ levels) × (length img ≡ leng
 abbrev μ-loop : tie.MeasureT-loop
 μ-loop img₀ levels b e u i₀ img i = levels - i
 
--- src/lib.rt:86:5
 slice-write-img : tie.Need-slice-write-img Inv-loop μ-loop
 slice-write-img c = search needs
 
--- src/lib.rt:87:5
 slice-write-img-2 : tie.Need-slice-write-img-2 Inv-loop μ-loop
 slice-write-img-2 c = simp length-set (omega arith)
 
--- src/lib.rt:88:5
 slice-write-img-3 : tie.Need-slice-write-img-3 Inv-loop μ-loop
 slice-write-img-3 c = simp length-set (omega arith)
 
--- src/lib.rt:89:5
 slice-write-img-4 : tie.Need-slice-write-img-4 Inv-loop μ-loop
 slice-write-img-4 c = simp length-set (omega arith)
 
--- src/lib.rt:90:5
 slice-write-img-5 : tie.Need-slice-write-img-5 Inv-loop μ-loop
 slice-write-img-5 c = simp length-set (omega arith)
 
--- src/lib.rt:91:5
 slice-write-img-6 : tie.Need-slice-write-img-6 Inv-loop μ-loop
 slice-write-img-6 c = simp length-set (omega arith)
 
--- src/lib.rt:97:5
 loop-holds : tie.Need-loop-holds Inv-loop μ-loop
 loop-holds c = (search needs, search needs, simp length-set (omega arith), search needs)
 
--- src/lib.rt:98:27
 mul-store-row : tie.Need-mul-store-row Inv-loop μ-loop
 mul-store-row c = search needs
 
--- src/lib.rt:98:27
 array-read-store-row : tie.Need-array-read-store-row Inv-loop μ-loop
 array-read-store-row c = search needs
 
--- src/lib.rt:98:33
 mul-store-row-2 : tie.Need-mul-store-row-2 Inv-loop μ-loop
 mul-store-row-2 c = search needs
 
--- src/lib.rt:98:33
 array-read-store-row-2 : tie.Need-array-read-store-row-2 Inv-loop μ-loop
 array-read-store-row-2 c = search needs
 
--- src/lib.rt:98:39
 mul-store-row-3 : tie.Need-mul-store-row-3 Inv-loop μ-loop
 mul-store-row-3 c = search needs
 
--- src/lib.rt:98:39
 array-read-store-row-3 : tie.Need-array-read-store-row-3 Inv-loop μ-loop
 array-read-store-row-3 c = search needs
 
--- src/lib.rt:98:9
 store-row-requires : tie.Need-store-row-requires Inv-loop μ-loop
 store-row-requires c κs = search needs
 
--- src/lib.rt:99:9
 add-i : tie.Need-add-i Inv-loop μ-loop
 add-i c = search needs
 
--- src/lib.rt:97:5
 loop-less : tie.Need-loop-less Inv-loop μ-loop
 loop-less c = search needs
 
--- src/lib.rt:97:5
 loop-again : tie.Need-loop-again Inv-loop μ-loop
 loop-again c =
     let called = c .before .before in
@@ -95,11 +78,9 @@ loop-again c =
       rw (called .store-row .ensures) (row-turn _ (h .bounds) (h .«element_counts») (h .«update_counts») (l .img) (l .i) (l .inv .3)),
     )
 
--- src/lib.rt:82:1
 same-length : tie.Need-same-length Inv-loop μ-loop
 same-length c = simp length-set at (c .before .loop .inv .1)
 
--- src/lib.rt:82:1
 returns : tie.Need-returns Inv-loop μ-loop
 unfolding wordsOf
 returns c =

@@ -9,51 +9,39 @@ use Rattle.layout.specs.Image.{HEAD, ROW}
 use Rattle.header.proofs.store_row.Statement.{statement}
 use Rattle.header.proofs.store_row.Tie as tie
 
--- src/lib.rt:75:29
 mul-at : tie.Need-mul-at
 mul-at c = search needs
 
--- src/lib.rt:75:14
 add-at : tie.Need-add-at
 add-at c = search needs
 
--- src/lib.rt:76:5
 mul-img : tie.Need-mul-img
 mul-img c = search needs
 
--- src/lib.rt:76:5
 slice-write-img : tie.Need-slice-write-img
 slice-write-img c = search needs
 
--- src/lib.rt:77:9
 add-img : tie.Need-add-img
 add-img c = search needs
 
--- src/lib.rt:77:5
 mul-img-2 : tie.Need-mul-img-2
 mul-img-2 c = search needs
 
--- src/lib.rt:77:5
 slice-write-img-2 : tie.Need-slice-write-img-2
 slice-write-img-2 c = simp length-set (omega arith)
 
--- src/lib.rt:78:9
 add-img-2 : tie.Need-add-img-2
 add-img-2 c = search needs
 
--- src/lib.rt:78:5
 mul-img-3 : tie.Need-mul-img-3
 mul-img-3 c = search needs
 
--- src/lib.rt:78:5
 slice-write-img-3 : tie.Need-slice-write-img-3
 slice-write-img-3 c = simp length-set (omega arith)
 
--- src/lib.rt:71:1
 same-length : tie.Need-same-length
 same-length c = search needs
 
--- src/lib.rt:71:1
 returns : tie.Need-returns
 returns c =
     let at = HEAD + ROW * c .args .i in

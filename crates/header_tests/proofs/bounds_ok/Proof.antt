@@ -7,8 +7,6 @@ use borrow.Author.Count.{below-more}
 use Rattle.image_clauses.specs.Clauses.{boundWord}
 use Rattle.header_tests.proofs.bounds_ok.Statement.{statement}
 use Rattle.header_tests.proofs.bounds_ok.Tie as tie
-use Rattle.header_tests.proofs.bounds_ok.Reads as reads
-use Rattle.header_tests.proofs.bounds_ok.Lts as lts
 
 abbrev Inv-loop : tie.InvT-loop
 Inv-loop img levels i₀ i = (i + 1 ≤ levels) × ((k : ℕ) → k < i → boundWord img k ≤ boundWord img (k + 1))
@@ -16,93 +14,71 @@ Inv-loop img levels i₀ i = (i + 1 ≤ levels) × ((k : ℕ) → k < i → boun
 abbrev μ-loop : tie.MeasureT-loop
 μ-loop img levels i₀ i = levels - i
 
--- src/lib.rt:118:5
 loop-holds : tie.Need-loop-holds Inv-loop μ-loop
 loop-holds c = search needs
 
--- src/lib.rt:118:11
 add-loop : tie.Need-add-loop Inv-loop μ-loop
 add-loop c = search needs
 
--- src/lib.rt:119:23
 mul-if1 : tie.Need-mul-if1 Inv-loop μ-loop
 mul-if1 c = search needs
 
--- src/lib.rt:119:16
 add-if1 : tie.Need-add-if1 Inv-loop μ-loop
 add-if1 c = search needs
 
--- src/lib.rt:119:12
 mul-if1-2 : tie.Need-mul-if1-2 Inv-loop μ-loop
 mul-if1-2 c = search needs
 
--- src/lib.rt:119:12
 shared-slice-read-if1 : tie.Need-shared-slice-read-if1 Inv-loop μ-loop
 shared-slice-read-if1 c = search needs
 
--- src/lib.rt:119:52
 add-if1-2 : tie.Need-add-if1-2 Inv-loop μ-loop
 add-if1-2 c = search needs
 
--- src/lib.rt:119:45
 mul-if1-3 : tie.Need-mul-if1-3 Inv-loop μ-loop
 mul-if1-3 c = search needs
 
--- src/lib.rt:119:38
 add-if1-3 : tie.Need-add-if1-3 Inv-loop μ-loop
 add-if1-3 c = search needs
 
--- src/lib.rt:119:34
 mul-if1-4 : tie.Need-mul-if1-4 Inv-loop μ-loop
 mul-if1-4 c = search needs
 
--- src/lib.rt:119:34
 shared-slice-read-if1-2 : tie.Need-shared-slice-read-if1-2 Inv-loop μ-loop
 shared-slice-read-if1-2 c = search needs
 
--- src/lib.rt:120:13
 returns : tie.Need-returns Inv-loop μ-loop
 returns c = λ b. let q = b .rise (c .before .before .before .before .loop .i) (omega arith) in omega arith
 
--- src/lib.rt:122:9
 add-i : tie.Need-add-i Inv-loop μ-loop
 add-i c = search needs
 
--- src/lib.rt:118:5
 loop-less : tie.Need-loop-less Inv-loop μ-loop
 loop-less c = search needs
 
--- src/lib.rt:118:5
 loop-again : tie.Need-loop-again Inv-loop μ-loop
 loop-again c =
     let l = c .before .before .before .before .loop in
     (search needs, below-more _ _ (l .inv .1) (omega arith))
 
--- src/lib.rt:124:34
 sub-last : tie.Need-sub-last Inv-loop μ-loop
 sub-last c = search needs
 
--- src/lib.rt:124:27
 mul-last : tie.Need-mul-last Inv-loop μ-loop
 mul-last c = search needs
 
--- src/lib.rt:124:20
 add-last : tie.Need-add-last Inv-loop μ-loop
 add-last c = search needs
 
--- src/lib.rt:124:16
 mul-last-2 : tie.Need-mul-last-2 Inv-loop μ-loop
 mul-last-2 c = search needs
 
--- src/lib.rt:124:16
 shared-slice-read-last : tie.Need-shared-slice-read-last Inv-loop μ-loop
 shared-slice-read-last c = search needs
 
--- src/lib.rt:126:9
 returns-2 : tie.Need-returns-2 Inv-loop μ-loop
 returns-2 c = search needs
 
--- src/lib.rt:113:1
 returns-3 : tie.Need-returns-3 Inv-loop μ-loop
 returns-3 c = record { rise = λ k h. c .before .before .before .loop .inv .1 k (omega arith); last-open = omega arith }
 

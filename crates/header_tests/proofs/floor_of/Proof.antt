@@ -6,40 +6,30 @@ use borrow.Author.Needs.{needs}
 use Rattle.image_clauses.specs.Rows.{floor-below}
 use Rattle.header_tests.proofs.floor_of.Statement.{statement}
 use Rattle.header_tests.proofs.floor_of.Tie as tie
-use Rattle.header_tests.proofs.floor_of.Reads as reads
-use Rattle.header_tests.proofs.floor_of.Lts as lts
 
--- src/lib.rt:74:9
 returns : tie.Need-returns
 returns c = search needs
 
--- src/lib.rt:76:23
 sub-result : tie.Need-sub-result
 sub-result c = search needs
 
--- src/lib.rt:76:16
 mul-result : tie.Need-mul-result
 mul-result c = search needs
 
--- src/lib.rt:76:9
 add-result : tie.Need-add-result
 add-result c = search needs
 
--- src/lib.rt:76:5
 mul-result-2 : tie.Need-mul-result-2
 mul-result-2 c = search needs
 
--- src/lib.rt:76:5
 shared-slice-read-result : tie.Need-shared-slice-read-result
 shared-slice-read-result c = search needs
 
--- src/lib.rt:76:5
 add-result-2 : tie.Need-add-result-2
 add-result-2 c =
     let a = c .before .before .args in
     omega (arith, floor-below (a .img .now) (a .i) (omega arith))
 
--- src/lib.rt:69:1
 returns-2 : tie.Need-returns-2
 returns-2 c =
     let a = c .before .before .args in

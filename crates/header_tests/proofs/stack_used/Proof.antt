@@ -8,8 +8,6 @@ use Rattle.image_clauses.specs.Clauses.{updatesUnder}
 use Rattle.image_clauses.specs.Rows.{under-turn, under-le}
 use Rattle.header_tests.proofs.stack_used.Statement.{statement}
 use Rattle.header_tests.proofs.stack_used.Tie as tie
-use Rattle.header_tests.proofs.stack_used.Reads as reads
-use Rattle.header_tests.proofs.stack_used.Lts as lts
 
 abbrev Inv-loop : tie.InvT-loop
 Inv-loop img levels limit used₀ i₀ used i = (i ≤ levels) × (used ≤ limit) × (used ≡ updatesUnder img i (levels - i))
@@ -17,67 +15,53 @@ Inv-loop img levels limit used₀ i₀ used i = (i ≤ levels) × (used ≤ limi
 abbrev μ-loop : tie.MeasureT-loop
 μ-loop img levels limit used₀ i₀ used i = i
 
--- src/lib.rt:138:5
 loop-holds : tie.Need-loop-holds Inv-loop μ-loop
 loop-holds c =
     let e : c .args .levels - c .args .levels ≡ 0 = omega arith in
     (search needs, search needs, rw e)
 
--- src/lib.rt:139:9
 sub-i : tie.Need-sub-i Inv-loop μ-loop
 sub-i c = search needs
 
--- src/lib.rt:140:31
 mul-more : tie.Need-mul-more Inv-loop μ-loop
 mul-more c = search needs
 
--- src/lib.rt:140:24
 add-more : tie.Need-add-more Inv-loop μ-loop
 add-more c = search needs
 
--- src/lib.rt:140:24
 add-more-2 : tie.Need-add-more-2 Inv-loop μ-loop
 add-more-2 c = search needs
 
--- src/lib.rt:140:20
 mul-more-2 : tie.Need-mul-more-2 Inv-loop μ-loop
 mul-more-2 c = search needs
 
--- src/lib.rt:140:20
 shared-slice-read-more : tie.Need-shared-slice-read-more Inv-loop μ-loop
 shared-slice-read-more c = search needs
 
--- src/lib.rt:141:19
 sub-if1 : tie.Need-sub-if1 Inv-loop μ-loop
 sub-if1 c = search needs
 
--- src/lib.rt:142:20
 add-result : tie.Need-add-result Inv-loop μ-loop
 add-result c = search needs
 
--- src/lib.rt:142:13
 returns : tie.Need-returns Inv-loop μ-loop
 returns c =
     let l = c .before .before .before .loop in
     let a = c .before .before .before .before .args in
     omega (arith, under-turn (a .img .now) (a .levels) (l .i - 1) (l .i) (omega arith) (omega arith), under-le (a .img .now) (l .i - 1) (a .levels - (l .i - 1)) (a .levels) (omega arith))
 
--- src/lib.rt:144:9
 add-used : tie.Need-add-used Inv-loop μ-loop
 add-used c = search needs
 
--- src/lib.rt:138:5
 loop-less : tie.Need-loop-less Inv-loop μ-loop
 loop-less c = search needs
 
--- src/lib.rt:138:5
 loop-again : tie.Need-loop-again Inv-loop μ-loop
 loop-again c =
     let l = c .before .before .before .loop in
     let a = c .before .before .before .before .args in
     (search needs, omega arith, omega (arith, under-turn (a .img .now) (a .levels) (l .i - 1) (l .i) (omega arith) (omega arith)))
 
--- src/lib.rt:132:1
 returns-2 : tie.Need-returns-2 Inv-loop μ-loop
 returns-2 c =
     let l = c .before .loop in

@@ -6,14 +6,10 @@ use borrow.Author.Needs.{needs}
 use Rattle.image_clauses.specs.Rows.{top-below}
 use Rattle.header_tests.proofs.top_kind.Statement.{statement}
 use Rattle.header_tests.proofs.top_kind.Tie as tie
-use Rattle.header_tests.proofs.top_kind.Reads as reads
-use Rattle.header_tests.proofs.top_kind.Lts as lts
 
--- src/lib.rt:84:9
 returns : tie.Need-returns
 returns c = search needs
 
--- src/lib.rt:80:1
 returns-2 : tie.Need-returns-2
 returns-2 c = sym (top-below (c .before .args .i) (omega arith))
 

@@ -9,57 +9,42 @@ use Rattle.level_queue.proofs.Returns.{good-number, decrease-unsound, d
 use Rattle.level_queue.proofs.Making.{image-long}
 use Rattle.level_queue.proofs.decrease.Statement.{statement}
 use Rattle.level_queue.proofs.decrease.Tie as tie
-use Rattle.level_queue.proofs.decrease.Reads as reads
-use Rattle.level_queue.proofs.decrease.Lts as lts
-use Rattle.level_queue.proofs.inner_decrease.Reads as inner-decrease-reads
-use Rattle.level_queue.proofs.refusal.Reads as refusal-reads
 
--- src/lib.rt:52:9
 refusal-requires : tie.Need-refusal-requires
 refusal-requires c κs = search needs
 
--- src/lib.rt:54:9
 same-length : tie.Need-same-length
 same-length c = search needs
 
--- src/lib.rt:54:9
 returns : tie.Need-returns
 returns c =
     let a = c .before .before .before .before .args in decrease-unsound (a .image .now) (a .id) (a .key) (c .before .refusal .result) (c .before .refusal .ensures) (c .if1 .taken)
 
--- src/lib.rt:56:8
 slice-read-if2 : tie.Need-slice-read-if2
 slice-read-if2 c =
     let a = c .before .before .before .before .before .args in omega (arith, image-long (a .image .now) (good-number (a .image .now) (c .before .before .refusal .result) (c .before .before .refusal .ensures) (c .before .if1 .left)))
 
--- src/lib.rt:57:9
 same-length-2 : tie.Need-same-length-2
 same-length-2 c = search needs
 
--- src/lib.rt:57:9
 returns-2 : tie.Need-returns-2
 returns-2 c =
     let a = c .before .before .before .before .before .before .args in decrease-id (a .image .now) (a .id) (a .key) (good-number (a .image .now) (c .before .before .before .refusal .result) (c .before .before .before .refusal .ensures) (c .before .before .if1 .left)) (c .if2 .taken)
 
--- src/lib.rt:60:9
 same-length-3 : tie.Need-same-length-3
 same-length-3 c = search needs
 
--- src/lib.rt:60:9
 returns-3 : tie.Need-returns-3
 returns-3 c =
     let a = c .before .before .before .before .before .before .before .args in decrease-key (a .image .now) (a .id) (a .key) (good-number (a .image .now) (c .before .before .before .before .refusal .result) (c .before .before .before .before .refusal .ensures) (c .before .before .before .if1 .left)) (c .before .if2 .left) (c .if3 .taken)
 
--- src/lib.rt:62:5
 inner-decrease-requires : tie.Need-inner-decrease-requires
 inner-decrease-requires c κs =
     let a = c .before .before .before .before .before .before .before .before .args in ((good-number (a .image .now) (c .before .before .before .before .before .refusal .result) (c .before .before .before .before .before .refusal .ensures) (c .before .before .before .before .if1 .left)), c .before .before .if2 .left, c .before .if3 .left)
 
--- src/lib.rt:49:1
 same-length-4 : tie.Need-same-length-4
 same-length-4 c = search needs
 
--- src/lib.rt:49:1
 returns-4 : tie.Need-returns-4
 returns-4 c =
     let a = c .before .before .before .before .before .before .before .before .before .before .before .args in decrease-taken (a .image .now) (a .id) (a .key) (good-number (a .image .now) (c .before .before .before .before .before .before .before .before .refusal .result) (c .before .before .before .before .before .before .before .before .refusal .ensures) (c .before .before .before .before .before .before .before .if1 .left)) (c .before .before .before .before .before .if2 .left) (c .before .before .before .before .if3 .left) _ (c .before .before .inner-decrease .ensures)

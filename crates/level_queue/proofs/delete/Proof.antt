@@ -9,48 +9,35 @@ use Rattle.level_queue.proofs.Returns.{good-number, delete-unsound, del
 use Rattle.level_queue.proofs.Making.{image-long}
 use Rattle.level_queue.proofs.delete.Statement.{statement}
 use Rattle.level_queue.proofs.delete.Tie as tie
-use Rattle.level_queue.proofs.delete.Reads as reads
-use Rattle.level_queue.proofs.delete.Lts as lts
-use Rattle.level_queue.proofs.inner_delete.Reads as inner-delete-reads
-use Rattle.level_queue.proofs.refusal.Reads as refusal-reads
 
--- src/lib.rt:70:9
 refusal-requires : tie.Need-refusal-requires
 refusal-requires c κs = search needs
 
--- src/lib.rt:72:9
 same-length : tie.Need-same-length
 same-length c = search needs
 
--- src/lib.rt:72:9
 returns : tie.Need-returns
 returns c =
     let a = c .before .before .before .before .args in delete-unsound (a .image .now) (a .id) (c .before .refusal .result) (c .before .refusal .ensures) (c .if1 .taken)
 
--- src/lib.rt:74:8
 slice-read-if2 : tie.Need-slice-read-if2
 slice-read-if2 c =
     let a = c .before .before .before .before .before .args in omega (arith, image-long (a .image .now) (good-number (a .image .now) (c .before .before .refusal .result) (c .before .before .refusal .ensures) (c .before .if1 .left)))
 
--- src/lib.rt:75:9
 same-length-2 : tie.Need-same-length-2
 same-length-2 c = search needs
 
--- src/lib.rt:75:9
 returns-2 : tie.Need-returns-2
 returns-2 c =
     let a = c .before .before .before .before .before .before .args in delete-id (a .image .now) (a .id) (good-number (a .image .now) (c .before .before .before .refusal .result) (c .before .before .before .refusal .ensures) (c .before .before .if1 .left)) (c .if2 .taken)
 
--- src/lib.rt:77:5
 inner-delete-requires : tie.Need-inner-delete-requires
 inner-delete-requires c κs =
     let a = c .before .before .before .before .before .before .before .args in ((good-number (a .image .now) (c .before .before .before .before .refusal .result) (c .before .before .before .before .refusal .ensures) (c .before .before .before .if1 .left)), c .before .if2 .left)
 
--- src/lib.rt:67:1
 same-length-3 : tie.Need-same-length-3
 same-length-3 c = search needs
 
--- src/lib.rt:67:1
 returns-3 : tie.Need-returns-3
 returns-3 c =
     let a = c .before .before .before .before .before .before .before .before .before .before .args in delete-taken (a .image .now) (a .id) (good-number (a .image .now) (c .before .before .before .before .before .before .before .refusal .result) (c .before .before .before .before .before .before .before .refusal .ensures) (c .before .before .before .before .before .before .if1 .left)) (c .before .before .before .before .if2 .left) _ (c .before .before .inner-delete .ensures)

@@ -8,39 +8,28 @@ use mathlib.Core.Path.{_∙_}
 use Rattle.level_queue.proofs.Returns.{fresh-none, fresh-many, fresh-short, fresh-made}
 use Rattle.level_queue.proofs.fresh.Statement.{statement}
 use Rattle.level_queue.proofs.fresh.Tie as tie
-use Rattle.level_queue.proofs.fresh.Reads as reads
-use Rattle.level_queue.proofs.fresh.Lts as lts
-use Rattle.fresh_image.proofs.make_fresh.Reads as make-fresh-reads
-use Rattle.fresh_image.proofs.need_of.Reads as need-of-reads
 
--- src/lib.rt:34:9
 returns : tie.Need-returns
 returns c =
     let a = c .before .before .args in fresh-none (a .n) (a .image .now) (c .if1 .taken)
 
--- src/lib.rt:37:9
 returns-2 : tie.Need-returns-2
 returns-2 c =
     let a = c .before .before .before .args in fresh-many (a .n) (a .image .now) (c .before .if1 .left) (c .if2 .taken)
 
--- src/lib.rt:40:9
 need-of-requires : tie.Need-need-of-requires
 need-of-requires c κs = search needs
 
--- src/lib.rt:42:9
 returns-3 : tie.Need-returns-3
 returns-3 c =
     let a = c .before .before .before .before .before .args in fresh-short (a .n) (a .image .now) (c .before .before .before .if1 .left) (c .before .before .if2 .left) (omega (arith, c .if3 .taken, c .before .need-of .ensures))
 
--- src/lib.rt:44:5
 make-fresh-requires : tie.Need-make-fresh-requires
 make-fresh-requires c κs = search needs
 
--- src/lib.rt:30:1
 same-length : tie.Need-same-length
 same-length c = search needs
 
--- src/lib.rt:30:1
 returns-4 : tie.Need-returns-4
 returns-4 c =
     let a = c .before .before .before .before .before .before .before .before .before .args in fresh-made (a .n) (a .image .now) (c .before .before .before .before .before .before .before .if1 .left) (c .before .before .before .before .before .before .if2 .left) (omega (arith, c .before .before .before .before .if3 .left, c .before .before .before .before .before .need-of .ensures)) _ (c .before .before .make-fresh .ensures)

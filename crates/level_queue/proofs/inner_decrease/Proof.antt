@@ -8,32 +8,22 @@ use mathlib.Core.Path.{_∙_}
 use Rattle.level_queue.proofs.Making.{decrease-updatable, decrease-pushed}
 use Rattle.level_queue.proofs.inner_decrease.Statement.{statement}
 use Rattle.level_queue.proofs.inner_decrease.Tie as tie
-use Rattle.level_queue.proofs.inner_decrease.Reads as reads
-use Rattle.level_queue.proofs.inner_decrease.Lts as lts
-use Rattle.level_queue.proofs.update.Reads as update-reads
-use Rattle.pair.proofs.Pair.make.Reads as make-reads
-use Rattle.pair.proofs.Update.decrease.Reads as decrease-reads
 
--- src/lib.rt:106:9
 make-requires : tie.Need-make-requires
 make-requires c κs =
     (c .before .pre .2, omega (arith, c .before .pre .1, c .before .pre .0 .sound .range .1))
 
--- src/lib.rt:107:9
 decrease-requires : tie.Need-decrease-requires
 decrease-requires c κs =
     omega (arith, c .make .ensures, c .before .before .pre .1, c .before .before .pre .2, c .before .before .pre .0 .sound .range .1)
 
--- src/lib.rt:108:5
 update-requires : tie.Need-update-requires
 update-requires c κs =
     let a = c .before .before .before .before .args in rw (c .before .decrease .ensures, c .before .before .make .ensures) (decrease-updatable (a .image .now) (c .before .before .before .before .pre .0) (a .id) (c .before .before .before .before .pre .1) (a .key) (c .before .before .before .before .pre .2))
 
--- src/lib.rt:102:1
 same-length : tie.Need-same-length
 same-length c = search needs
 
--- src/lib.rt:102:1
 returns : tie.Need-returns
 returns c =
     let a = c .before .before .before .before .before .before .before .args in c .before .before .update .ensures ∙ rw (c .before .before .before .before .decrease .ensures, c .before .before .before .before .before .make .ensures) (decrease-pushed (a .image .now) (c .before .before .before .before .before .before .before .pre .0) (a .id) (c .before .before .before .before .before .before .before .pre .1) (a .key) (c .before .before .before .before .before .before .before .pre .2))

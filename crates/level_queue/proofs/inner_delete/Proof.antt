@@ -8,26 +8,18 @@ use mathlib.Core.Path.{_∙_}
 use Rattle.level_queue.proofs.Making.{delete-updatable, delete-pushed}
 use Rattle.level_queue.proofs.inner_delete.Statement.{statement}
 use Rattle.level_queue.proofs.inner_delete.Tie as tie
-use Rattle.level_queue.proofs.inner_delete.Reads as reads
-use Rattle.level_queue.proofs.inner_delete.Lts as lts
-use Rattle.level_queue.proofs.update.Reads as update-reads
-use Rattle.pair.proofs.Update.delete.Reads as delete-reads
 
--- src/lib.rt:115:9
 delete-requires : tie.Need-delete-requires
 delete-requires c κs =
     omega (arith, c .before .pre .1, c .before .pre .0 .sound .range .1)
 
--- src/lib.rt:116:5
 update-requires : tie.Need-update-requires
 update-requires c κs =
     let a = c .before .before .before .args in rw (c .before .delete .ensures) (delete-updatable (a .image .now) (c .before .before .before .pre .0) (a .id) (c .before .before .before .pre .1))
 
--- src/lib.rt:111:1
 same-length : tie.Need-same-length
 same-length c = search needs
 
--- src/lib.rt:111:1
 returns : tie.Need-returns
 returns c =
     let a = c .before .before .before .before .before .before .args in c .before .before .update .ensures ∙ rw (c .before .before .before .before .delete .ensures) (delete-pushed (a .image .now) (c .before .before .before .before .before .before .pre .0) (a .id) (c .before .before .before .before .before .before .pre .1))

@@ -8,34 +8,25 @@ use mathlib.Core.Path.{_∙_}
 use Rattle.level_queue.proofs.Making.{image-long, room-tidied, room-there}
 use Rattle.level_queue.proofs.make_room.Statement.{statement}
 use Rattle.level_queue.proofs.make_room.Tie as tie
-use Rattle.level_queue.proofs.make_room.Reads as reads
-use Rattle.level_queue.proofs.make_room.Lts as lts
-use Rattle.tidy.proofs.tidy.Reads as tidy-reads
 
--- src/lib.rt:133:8
 slice-read-if1 : tie.Need-slice-read-if1
 slice-read-if1 c =
     omega (arith, image-long (c .before .before .args .image .now) (c .before .before .pre))
 
--- src/lib.rt:133:29
 slice-read-if1-2 : tie.Need-slice-read-if1-2
 slice-read-if1-2 c =
     omega (arith, image-long (c .before .before .before .args .image .now) (c .before .before .before .pre))
 
--- src/lib.rt:134:9
 tidy-requires : tie.Need-tidy-requires
 tidy-requires c κs = search needs
 
--- src/lib.rt:129:1
 same-length : tie.Need-same-length
 same-length c = search needs
 
--- src/lib.rt:129:1
 returns : tie.Need-returns
 returns c =
     c .before .before .tidy .ensures ∙ room-tidied (c .before .before .before .before .before .before .before .before .args .image .now) (c .before .before .before .before .before .before .before .before .pre) (c .before .before .before .before .if1 .taken)
 
--- src/lib.rt:129:1
 returns-2 : tie.Need-returns-2
 returns-2 c =
     room-there (c .before .before .before .before .args .image .now) (c .before .before .before .before .pre) (c .if1 .left)

@@ -8,26 +8,18 @@ use mathlib.Core.Path.{_∙_}
 use Rattle.level_queue.proofs.Making.{made-pushable, made-pushed}
 use Rattle.level_queue.proofs.update.Statement.{statement}
 use Rattle.level_queue.proofs.update.Tie as tie
-use Rattle.level_queue.proofs.update.Reads as reads
-use Rattle.level_queue.proofs.update.Lts as lts
-use Rattle.level_queue.proofs.make_room.Reads as make-room-reads
-use Rattle.push_update.proofs.push.Reads as push-reads
 
--- src/lib.rt:124:5
 make-room-requires : tie.Need-make-room-requires
 make-room-requires c κs =
     c .before .before .pre .sound
 
--- src/lib.rt:125:5
 push-requires : tie.Need-push-requires
 push-requires c κs =
     let a = c .before .before .before .before .before .before .args in rw (c .before .before .before .make-room .ensures) (made-pushable (a .image .now) (a .w) (c .before .before .before .before .before .before .pre))
 
--- src/lib.rt:120:1
 same-length : tie.Need-same-length
 same-length c = search needs
 
--- src/lib.rt:120:1
 returns : tie.Need-returns
 returns c =
     let a = c .before .before .before .before .before .before .before .before .before .args in c .before .before .push .ensures ∙ rw (c .before .before .before .before .before .before .make-room .ensures) (made-pushed (a .image .now) (a .w) (c .before .before .before .before .before .before .before .before .before .pre))

@@ -9,86 +9,61 @@ use Rattle.image_clauses.specs.Turns.{says-yes}
 use Rattle.image_clauses.specs.Passes.{room-fails, padding-fails, pairs-fail, level-read}
 use Rattle.level_tests.proofs.level_ok.Statement.{statement}
 use Rattle.level_tests.proofs.level_ok.Tie as tie
-use Rattle.level_tests.proofs.level_ok.Reads as reads
-use Rattle.level_tests.proofs.level_ok.Lts as lts
-use Rattle.header_tests.proofs.floor_of.Reads as floor-of-reads
-use Rattle.header_tests.proofs.top_kind.Reads as top-kind-reads
-use Rattle.order_tests.proofs.read_pairs.Reads as read-pairs-reads
-use Rattle.order_tests.proofs.read_updates.Reads as read-updates-reads
-use Rattle.stretch_tests.proofs.zeros.Reads as zeros-reads
 
--- src/lib.rt:31:22
 mul-row : tie.Need-mul-row
 mul-row c = search needs
 
--- src/lib.rt:31:15
 add-row : tie.Need-add-row
 add-row c = search needs
 
--- src/lib.rt:32:16
 mul-high : tie.Need-mul-high
 mul-high c = search needs
 
--- src/lib.rt:32:16
 shared-slice-read-high : tie.Need-shared-slice-read-high
 shared-slice-read-high c = search needs
 
--- src/lib.rt:33:21
 add-count : tie.Need-add-count
 add-count c = search needs
 
--- src/lib.rt:33:17
 mul-count : tie.Need-mul-count
 mul-count c = search needs
 
--- src/lib.rt:33:17
 shared-slice-read-count : tie.Need-shared-slice-read-count
 shared-slice-read-count c = search needs
 
--- src/lib.rt:34:23
 add-updates : tie.Need-add-updates
 add-updates c = search needs
 
--- src/lib.rt:34:19
 mul-updates : tie.Need-mul-updates
 mul-updates c = search needs
 
--- src/lib.rt:34:19
 shared-slice-read-updates : tie.Need-shared-slice-read-updates
 shared-slice-read-updates c = search needs
 
--- src/lib.rt:35:23
 mul-area : tie.Need-mul-area
 mul-area c = search needs
 
--- src/lib.rt:35:16
 add-area : tie.Need-add-area
 add-area c = search needs
 
--- src/lib.rt:35:39
 sub-area : tie.Need-sub-area
 sub-area c = search needs
 
--- src/lib.rt:35:16
 add-area-2 : tie.Need-add-area-2
 add-area-2 c = search needs
 
--- src/lib.rt:37:9
 returns : tie.Need-returns
 returns c =
     let s = c .before .before .before .before .before .before in
     let a = s .args in
     room-fails (a .img .now) (a .n) (a .levels) (a .i) (a .at) (a .size) (floorOf (a .img .now) (a .i)) (topKind (a .i)) (s .pre .2) refl refl (a .last .now) _ (omega arith)
 
--- src/lib.rt:39:35
 add-zeros : tie.Need-add-zeros
 add-zeros c = search needs
 
--- src/lib.rt:39:9
 zeros-requires : tie.Need-zeros-requires
 zeros-requires c κs = search needs
 
--- src/lib.rt:40:9
 returns-2 : tie.Need-returns-2
 returns-2 c =
     let s = c .before .before .before .before .before .before .before .before in
@@ -96,23 +71,18 @@ returns-2 c =
     let z = c .before .zeros in
     padding-fails (a .img .now) (a .n) (a .levels) (a .i) (a .at) (a .size) (floorOf (a .img .now) (a .i)) (topKind (a .i)) (s .pre .2) refl refl (a .last .now) _ (z .result) (not-true _ (c .if2 .taken)) (z .ensures)
 
--- src/lib.rt:42:9
 floor-of-requires : tie.Need-floor-of-requires
 floor-of-requires c κs = search needs
 
--- src/lib.rt:43:9
 top-kind-requires : tie.Need-top-kind-requires
 top-kind-requires c κs = search needs
 
--- src/lib.rt:44:9
 read-pairs-requires : tie.Need-read-pairs-requires
 read-pairs-requires c κs = search needs
 
--- src/lib.rt:45:9
 same-length : tie.Need-same-length
 same-length c = search needs
 
--- src/lib.rt:45:9
 returns-3 : tie.Need-returns-3
 returns-3 c =
     let s = c .before .before .before .before .before .before .before .before .before .before .before .before .before .before .before in
@@ -122,15 +92,12 @@ returns-3 c =
     let p = c .before .before .before .read-pairs in
     pairs-fail (a .img .now) (a .n) (a .levels) (a .i) (a .at) (a .size) (f .result) (t .result) (s .pre .2) (f .ensures) (t .ensures) (a .last .now) _ _ (p .result) (not-true _ (c .if3 .taken)) (p .ensures)
 
--- src/lib.rt:47:5
 read-updates-requires : tie.Need-read-updates-requires
 read-updates-requires c κs = search needs
 
--- src/lib.rt:19:1
 same-length-2 : tie.Need-same-length-2
 same-length-2 c = search needs
 
--- src/lib.rt:19:1
 returns-4 : tie.Need-returns-4
 returns-4 c =
     let s = c .before .before .before .before .before .before .before .before .before .before .before .before .before .before .before .before .before .before .before in

@@ -14,9 +14,6 @@ use Rattle.image_clauses.specs.Rows.{power-next, power-low, power-le, floor-ope
 use Rattle.image_clauses.specs.Passes.{level-passes, level-refuses}
 use Rattle.level_tests.proofs.levels_ok.Statement.{statement}
 use Rattle.level_tests.proofs.levels_ok.Tie as tie
-use Rattle.level_tests.proofs.levels_ok.Reads as reads
-use Rattle.level_tests.proofs.levels_ok.Lts as lts
-use Rattle.level_tests.proofs.level_ok.Reads as level-ok-reads
 
 abbrev Inv-loop : tie.InvT-loop
 Inv-loop img n levels size last₀ i₀ half₀ at₀ last i half at = (i ≤ levels) × (half ≡ 2 ^ i) × (at ≡ stackFrom levels + updatesUnder img i (levels - i)) × (length last ≡ length last₀)
@@ -26,34 +23,27 @@ Inv-loop img n levels size last₀ i₀ half₀ at₀ last i half at = (i ≤ le
 abbrev μ-loop : tie.MeasureT-loop
 μ-loop img n levels size last₀ i₀ half₀ at₀ last i half at = i
 
--- src/lib.rt:57:25
 mul-at : tie.Need-mul-at Inv-loop μ-loop
 mul-at c = search needs
 
--- src/lib.rt:57:18
 add-at : tie.Need-add-at Inv-loop μ-loop
 add-at c = search needs
 
--- src/lib.rt:57:41
 sub-at : tie.Need-sub-at Inv-loop μ-loop
 sub-at c = search needs
 
--- src/lib.rt:57:18
 add-at-2 : tie.Need-add-at-2 Inv-loop μ-loop
 add-at-2 c = search needs
 
--- src/lib.rt:58:5
 loop-holds : tie.Need-loop-holds Inv-loop μ-loop
 loop-holds c =
     let a = c .before .before .args in
     let e : a .levels - a .levels ≡ 0 = omega arith in
     (search needs, search needs, rw e (omega arith), search needs, rw e tt, rw e refl, rw e tt)
 
--- src/lib.rt:59:9
 sub-i : tie.Need-sub-i Inv-loop μ-loop
 sub-i c = search needs
 
--- src/lib.rt:61:13
 level-ok-requires : tie.Need-level-ok-requires Inv-loop μ-loop
 level-ok-requires c κs =
     let l = c .before .before .loop in
@@ -69,11 +59,9 @@ level-ok-requires c κs =
     let u = under-le (a .img .now) k (a .levels - k) (a .levels) (omega arith) in
     (omega arith, omega arith, omega arith, omega arith, omega arith, omega arith, floor-open (a .img .now) (a .levels) (s .pre .0 .4) k (omega arith), omega arith)
 
--- src/lib.rt:62:13
 same-length : tie.Need-same-length Inv-loop μ-loop
 same-length c = search needs
 
--- src/lib.rt:62:13
 returns : tie.Need-returns Inv-loop μ-loop
 returns c =
     let l = c .before .before .before .before .before .before .loop in
@@ -84,27 +72,21 @@ returns c =
     let w = c .before .before .before .level-ok in
     level-refuses (a .last .now) (a .img .now) (a .n) (a .levels) k (l .i) (l .at) e h (l .inv .2) (l .last) _ (l .inv .5) (w .result) (not-true _ (c .if1 .taken)) (w .ensures)
 
--- src/lib.rt:64:26
 mul-at-2 : tie.Need-mul-at-2 Inv-loop μ-loop
 mul-at-2 c = search needs
 
--- src/lib.rt:64:19
 add-at-3 : tie.Need-add-at-3 Inv-loop μ-loop
 add-at-3 c = search needs
 
--- src/lib.rt:64:19
 add-at-4 : tie.Need-add-at-4 Inv-loop μ-loop
 add-at-4 c = search needs
 
--- src/lib.rt:64:15
 mul-at-3 : tie.Need-mul-at-3 Inv-loop μ-loop
 mul-at-3 c = search needs
 
--- src/lib.rt:64:15
 shared-slice-read-at : tie.Need-shared-slice-read-at Inv-loop μ-loop
 shared-slice-read-at c = omega (arith, power-low (c .before .before .before .before .before .before .before .before .before .before .args .levels))
 
--- src/lib.rt:64:9
 add-at-5 : tie.Need-add-at-5 Inv-loop μ-loop
 add-at-5 c =
     let l = c .before .before .before .before .before .before .before .loop in
@@ -116,11 +98,9 @@ add-at-5 c =
     let u = under-le (a .img .now) k (a .levels - k) (a .levels) (omega arith) in
     omega arith
 
--- src/lib.rt:58:5
 loop-less : tie.Need-loop-less Inv-loop μ-loop
 loop-less c = search needs
 
--- src/lib.rt:58:5
 loop-again : tie.Need-loop-again Inv-loop μ-loop
 loop-again c =
     let l = c .before .before .before .before .before .before .before .loop in
@@ -134,11 +114,9 @@ loop-again c =
     let r = level-passes (a .last .now) (a .img .now) (a .n) (a .levels) k (l .i) (l .at) e h (l .inv .2) (l .last) _ (l .inv .5) (l .inv .6) (l .inv .4) (w .result) (not-false _ (c .before .if1 .left)) (w .ensures) in
     (omega arith, omega arith, omega arith, omega arith, r .0, r .1, r .2)
 
--- src/lib.rt:51:1
 same-length-2 : tie.Need-same-length-2 Inv-loop μ-loop
 same-length-2 c = search needs
 
--- src/lib.rt:51:1
 returns-2 : tie.Need-returns-2 Inv-loop μ-loop
 returns-2 c =
     let l = c .before .loop in

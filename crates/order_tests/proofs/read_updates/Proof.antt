@@ -13,10 +13,6 @@ use Rattle.image_clauses.specs.Turns.{Left, left-start, left-turn, left-fails, 
 use Rattle.image_clauses.specs.Marks.{Remain, remain-start, remain-turn, remain-fails, remain-end, refused}
 use Rattle.order_tests.proofs.read_updates.Statement.{statement}
 use Rattle.order_tests.proofs.read_updates.Tie as tie
-use Rattle.order_tests.proofs.read_updates.Reads as reads
-use Rattle.order_tests.proofs.read_updates.Lts as lts
-use Rattle.order_tests.proofs.note_update.Reads as note-update-reads
-use Rattle.stretch_tests.proofs.update_ok.Reads as update-ok-reads
 
 abbrev Inv-loop : tie.InvT-loop
 Inv-loop img at count n low top last₀ j₀ last j = (j ≤ count) × (length last ≡ length last₀) × Left (UpdateOk n low top) img at count j
@@ -25,33 +21,26 @@ Inv-loop img at count n low top last₀ j₀ last j = (j ≤ count) × (length l
 abbrev μ-loop : tie.MeasureT-loop
 μ-loop img at count n low top last₀ j₀ last j = count - j
 
--- src/lib.rt:108:5
 loop-holds : tie.Need-loop-holds Inv-loop μ-loop
 loop-holds c =
     let a = c .before .before .args in
     (search needs, search needs, left-start (UpdateOk (a .n) (a .low) (a .top)) (a .img .now) (a .at) (a .count), remain-start (a .last .now) _ _ (ap unwords (rest-start (a .img .now) (a .at) (a .count))))
 
--- src/lib.rt:109:21
 add-w : tie.Need-add-w Inv-loop μ-loop
 add-w c = search needs
 
--- src/lib.rt:109:17
 mul-w : tie.Need-mul-w Inv-loop μ-loop
 mul-w c = search needs
 
--- src/lib.rt:109:17
 shared-slice-read-w : tie.Need-shared-slice-read-w Inv-loop μ-loop
 shared-slice-read-w c = search needs
 
--- src/lib.rt:110:13
 update-ok-requires : tie.Need-update-ok-requires Inv-loop μ-loop
 update-ok-requires c κs = search needs
 
--- src/lib.rt:111:13
 same-length : tie.Need-same-length Inv-loop μ-loop
 same-length c = search needs
 
--- src/lib.rt:111:13
 returns : tie.Need-returns Inv-loop μ-loop
 returns c =
     let a = c .before .before .before .before .before .before .before .args in
@@ -59,18 +48,15 @@ returns c =
     let k = c .before .update-ok in
     refused _ _ _ _ (λ h. left-fails (UpdateOk (a .n) (a .low) (a .top)) (a .img .now) (a .at) (a .count) (l .j) (omega arith) (omega arith) (l .inv .2) (says-no (k .result) (not-true _ (c .if1 .taken)) (k .ensures)) (h .0))
 
--- src/lib.rt:113:13
 note-update-requires : tie.Need-note-update-requires Inv-loop μ-loop
 note-update-requires c κs =
     let l = c .before .before .before .before .before .loop in
     let k = c .before .before .update-ok in
     omega (arith, l .inv .1, says-yes (k .result) (not-false _ (c .before .if1 .left)) (k .ensures) .id-below)
 
--- src/lib.rt:114:13
 same-length-2 : tie.Need-same-length-2 Inv-loop μ-loop
 same-length-2 c = search needs
 
--- src/lib.rt:114:13
 returns-2 : tie.Need-returns-2 Inv-loop μ-loop
 returns-2 c =
     let a = c .before .before .before .before .before .before .before .before .before .before .before .before .args in
@@ -78,15 +64,12 @@ returns-2 c =
     let k = c .before .before .before .note-update in
     refused _ _ _ _ (λ h. remain-fails (a .last .now) (l .last) _ _ _ (unword (getD (a .img .now) (a .at + l .j) 0)) _ (ap unwords (rest-turn (a .img .now) (a .at) (a .count) (l .j) (omega arith) (omega arith))) (l .inv .3) (k .result) (not-true _ (c .if2 .taken)) (k .ensures) (h .1))
 
--- src/lib.rt:116:9
 add-j : tie.Need-add-j Inv-loop μ-loop
 add-j c = search needs
 
--- src/lib.rt:108:5
 loop-less : tie.Need-loop-less Inv-loop μ-loop
 loop-less c = search needs
 
--- src/lib.rt:108:5
 loop-again : tie.Need-loop-again Inv-loop μ-loop
 loop-again c =
     let a = c .before .before .before .before .before .before .before .before .before .before .before .before .args in
@@ -99,11 +82,9 @@ loop-again c =
       remain-turn (a .last .now) (l .last) _ _ _ (unword (getD (a .img .now) (a .at + l .j) 0)) _ (ap unwords (rest-turn (a .img .now) (a .at) (a .count) (l .j) (omega arith) (omega arith))) (l .inv .3) (k .result) (not-false _ (c .if2 .left)) (k .ensures),
     )
 
--- src/lib.rt:95:1
 same-length-3 : tie.Need-same-length-3 Inv-loop μ-loop
 same-length-3 c = search needs
 
--- src/lib.rt:95:1
 returns-3 : tie.Need-returns-3 Inv-loop μ-loop
 returns-3 c =
     let a = c .before .before .before .before .args in

@@ -8,50 +8,34 @@ use Rattle.image_clauses.specs.Clauses.{updatesUnder}
 use Rattle.image_clauses.specs.All.{count-fails, behind-fails, contents-say}
 use Rattle.sound.proofs.contents_ok.Statement.{statement}
 use Rattle.sound.proofs.contents_ok.Tie as tie
-use Rattle.sound.proofs.contents_ok.Reads as reads
-use Rattle.sound.proofs.contents_ok.Lts as lts
-use Rattle.header_tests.proofs.stack_used.Reads as stack-used-reads
-use Rattle.sound.proofs.levels_in_order.Reads as levels-in-order-reads
-use Rattle.stretch_tests.proofs.waiting.Reads as waiting-reads
-use Rattle.stretch_tests.proofs.zeros.Reads as zeros-reads
 
--- src/lib.rt:103:24
 mul-stack : tie.Need-mul-stack
 mul-stack c = search needs
 
--- src/lib.rt:103:17
 add-stack : tie.Need-add-stack
 add-stack c = search needs
 
--- src/lib.rt:103:40
 sub-stack : tie.Need-sub-stack
 sub-stack c = search needs
 
--- src/lib.rt:103:17
 add-stack-2 : tie.Need-add-stack-2
 add-stack-2 c = search needs
 
--- src/lib.rt:104:54
 mul-stack-used : tie.Need-mul-stack-used
 mul-stack-used c = search needs
 
--- src/lib.rt:104:9
 stack-used-requires : tie.Need-stack-used-requires
 stack-used-requires c κs = search needs
 
--- src/lib.rt:105:18
 shared-slice-read-stated : tie.Need-shared-slice-read-stated
 shared-slice-read-stated c = search needs
 
--- src/lib.rt:107:9
 returns : tie.Need-returns
 returns c = search needs
 
--- src/lib.rt:109:9
 waiting-requires : tie.Need-waiting-requires
 waiting-requires c κs = search needs
 
--- src/lib.rt:111:9
 returns-2 : tie.Need-returns-2
 returns-2 c =
     let s = c .before .before .before .before .before .before in
@@ -61,27 +45,21 @@ returns-2 c =
     let k = c .before .waiting in
     count-fails (a .img .now) (a .n) (a .levels) (a .size) (w .result) (s .pre .0 .3) f (k .result) (k .ensures) (c .if2 .taken)
 
--- src/lib.rt:113:35
 add-zeros : tie.Need-add-zeros
 add-zeros c = search needs
 
--- src/lib.rt:113:49
 mul-zeros : tie.Need-mul-zeros
 mul-zeros c = search needs
 
--- src/lib.rt:113:49
 add-zeros-2 : tie.Need-add-zeros-2
 add-zeros-2 c = search needs
 
--- src/lib.rt:113:49
 sub-zeros : tie.Need-sub-zeros
 sub-zeros c = search needs
 
--- src/lib.rt:113:9
 zeros-requires : tie.Need-zeros-requires
 zeros-requires c κs = search needs
 
--- src/lib.rt:114:9
 returns-3 : tie.Need-returns-3
 returns-3 c =
     let s = c .before .before .before .before .before .before .before .before in
@@ -91,7 +69,6 @@ returns-3 c =
     let z = c .before .zeros in
     behind-fails (a .img .now) (a .n) (a .levels) (a .size) (w .result) (s .pre .0 .3) f (z .result) (not-true _ (c .if3 .taken)) (z .ensures)
 
--- src/lib.rt:116:5
 levels-in-order-requires : tie.Need-levels-in-order-requires
 levels-in-order-requires c κs =
     let s = c .before .before .before .before .before .before .before .before in
@@ -100,7 +77,6 @@ levels-in-order-requires c κs =
     let f : w .result ≡ updatesUnder (a .img .now) 0 (a .levels) = omega (arith, w .ensures, s .pre .2 .fits) in
     (omega arith, (omega arith, s .pre .0 .3, omega arith, omega arith, s .pre .2 .bounds))
 
--- src/lib.rt:98:1
 returns-4 : tie.Need-returns-4
 returns-4 c =
     let s = c .before .before .before .before .before .before .before .before .before in

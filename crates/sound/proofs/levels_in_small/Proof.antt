@@ -6,19 +6,13 @@ use Rattle.image_clauses.proofs.Order.{order-read}
 use Rattle.sound.specs.Tables.{SMALL}
 use Rattle.sound.proofs.levels_in_small.Statement.{statement}
 use Rattle.sound.proofs.levels_in_small.Tie as tie
-use Rattle.sound.proofs.levels_in_small.Reads as reads
-use Rattle.sound.proofs.levels_in_small.Lts as lts
-use Rattle.level_tests.proofs.levels_ok.Reads as levels-ok-reads
 
--- src/lib.rt:43:50
 slice-aggregate-levels-ok : tie.Need-slice-aggregate-levels-ok
 slice-aggregate-levels-ok c = search needs
 
--- src/lib.rt:43:5
 levels-ok-requires : tie.Need-levels-ok-requires
 levels-ok-requires c κs = search needs
 
--- src/lib.rt:38:1
 returns : tie.Need-returns
 returns c =
     let s = c .before .before .before .before in

@@ -6,45 +6,32 @@ use borrow.Author.Tests.{not-true, not-false}
 use Rattle.image_clauses.specs.Turns.{says-yes, says-no}
 use Rattle.sound.proofs.shape_ok.Statement.{statement}
 use Rattle.sound.proofs.shape_ok.Tie as tie
-use Rattle.sound.proofs.shape_ok.Reads as reads
-use Rattle.sound.proofs.shape_ok.Lts as lts
-use Rattle.header_tests.proofs.bounds_ok.Reads as bounds-ok-reads
-use Rattle.header_tests.proofs.header_ok.Reads as header-ok-reads
-use Rattle.header_tests.proofs.stack_used.Reads as stack-used-reads
 
--- src/lib.rt:83:17
 mul-limit : tie.Need-mul-limit
 mul-limit c = search needs
 
--- src/lib.rt:84:9
 header-ok-requires : tie.Need-header-ok-requires
 header-ok-requires c κs = search needs
 
--- src/lib.rt:85:9
 returns : tie.Need-returns
 returns c =
     let w = c .before .header-ok in
     λ s. says-no (w .result) (not-true _ (c .if1 .taken)) (w .ensures) (s .header)
 
--- src/lib.rt:87:9
 bounds-ok-requires : tie.Need-bounds-ok-requires
 bounds-ok-requires c κs = search needs
 
--- src/lib.rt:88:9
 returns-2 : tie.Need-returns-2
 returns-2 c =
     let w = c .before .bounds-ok in
     λ s. says-no (w .result) (not-true _ (c .if2 .taken)) (w .ensures) (s .bounds)
 
--- src/lib.rt:90:9
 stack-used-requires : tie.Need-stack-used-requires
 stack-used-requires c κs = search needs
 
--- src/lib.rt:92:9
 returns-3 : tie.Need-returns-3
 returns-3 c = λ s. omega (arith, s .fits)
 
--- src/lib.rt:79:1
 returns-4 : tie.Need-returns-4
 returns-4 c =
     let h = c .before .before .before .before .before .header-ok in

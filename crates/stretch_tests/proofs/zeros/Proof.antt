@@ -7,8 +7,6 @@ use borrow.Author.Needs.{needs}
 use Rattle.image_clauses.specs.Turns.{Left, left-start, left-turn, left-fails, left-end}
 use Rattle.stretch_tests.proofs.zeros.Statement.{statement}
 use Rattle.stretch_tests.proofs.zeros.Tie as tie
-use Rattle.stretch_tests.proofs.zeros.Reads as reads
-use Rattle.stretch_tests.proofs.zeros.Lts as lts
 
 abbrev Inv-loop : tie.InvT-loop
 Inv-loop img at count j₀ j = (j ≤ count) × Left (λ w. w ≡ 0) img at count j
@@ -16,47 +14,38 @@ Inv-loop img at count j₀ j = (j ≤ count) × Left (λ w. w ≡ 0) img at coun
 abbrev μ-loop : tie.MeasureT-loop
 μ-loop img at count j₀ j = count - j
 
--- src/lib.rt:29:5
 loop-holds : tie.Need-loop-holds Inv-loop μ-loop
 loop-holds c =
     let a = c .args in
     (search needs, left-start (λ w. w ≡ 0) (a .img .now) (a .at) (a .count))
 
--- src/lib.rt:30:16
 add-if1 : tie.Need-add-if1 Inv-loop μ-loop
 add-if1 c = search needs
 
--- src/lib.rt:30:12
 mul-if1 : tie.Need-mul-if1 Inv-loop μ-loop
 mul-if1 c = search needs
 
--- src/lib.rt:30:12
 shared-slice-read-if1 : tie.Need-shared-slice-read-if1 Inv-loop μ-loop
 shared-slice-read-if1 c = search needs
 
--- src/lib.rt:31:13
 returns : tie.Need-returns Inv-loop μ-loop
 returns c =
     let a = c .before .before .before .before .args in
     let l = c .before .before .before .loop in
     left-fails (λ w. w ≡ 0) (a .img .now) (a .at) (a .count) (l .j) (omega arith) (omega arith) (l .inv .1) (c .if1 .taken)
 
--- src/lib.rt:33:9
 add-j : tie.Need-add-j Inv-loop μ-loop
 add-j c = search needs
 
--- src/lib.rt:29:5
 loop-less : tie.Need-loop-less Inv-loop μ-loop
 loop-less c = search needs
 
--- src/lib.rt:29:5
 loop-again : tie.Need-loop-again Inv-loop μ-loop
 loop-again c =
     let a = c .before .before .before .before .args in
     let l = c .before .before .before .loop in
     (search needs, left-turn (λ w. w ≡ 0) (a .img .now) (a .at) (a .count) (l .j) (omega arith) (omega arith) (l .inv .1) (c .if1 .left))
 
--- src/lib.rt:24:1
 returns-2 : tie.Need-returns-2 Inv-loop μ-loop
 returns-2 c =
     let a = c .before .before .args in

@@ -1,0 +1,2 @@
+-- AtWork: the image while Delete-Min works. Assumes nothing.
+pub mod AtWork

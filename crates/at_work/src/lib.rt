@@ -1,0 +1,1 @@
+// The image while Delete-Min works, and its laws. No function.

@@ -1,0 +1,89 @@
+-- What `wipe`'s calls ask and leave: what is left past the last level is cleared, and the levels are those of a fresh image.
+--   fresh-rows   what a fresh header's columns say        cleared   the words before the header is stored        wiped   the image
+-- Assumes nothing.
+use Prim.Native.Nat.{ℕ, zero, suc, _+_, _-_, _*_, _≤_}
+use mathlib.Core.Path.{_≡_, refl, sym, ap, _∙_}
+use mathlib.Core.List.{List, [], _++_}
+use native.Mathlib.Omega.{arith}
+use lib.ListN.{length, replicate, getD-replicate}
+use lib.Seq.{sets}
+use Rattle.plain.specs.Lists.{tally}
+use Rattle.rules.specs.Pair.{OPEN}
+use Rattle.rules.specs.Update.{waits}
+use Rattle.rules.specs.Heap.{waiting}
+use Rattle.rules.specs.Queue.{fresh}
+use Rattle.rules.proofs.Queue.{fresh-reading}
+use Rattle.layout.specs.Image.{HEAD, ROW, elementsFrom, stackFrom, workFrom, layOut}
+use Rattle.header.specs.declared.Header.{Header}
+use Rattle.header.specs.Record.{ROWS, wordsOf}
+use Rattle.at_work.specs.AtWork.{atWork, stackPlace, workPlace}
+use Rattle.at_work.proofs.Places.{working-length, passed-store, level-fill}
+use Rattle.descent.specs.declared.Halt.{Halt}
+use Rattle.descent.specs.Landed.{Through}
+use Rattle.closing.specs.Wipe.{freshHeader, Bare, Spent}
+use Rattle.closing.proofs.Columns.{Says}
+use Rattle.closing.proofs.Stored.{Numbers, stored}
+
+-- empty levels put on, from the last up
+fresh-down : (n : ℕ) (top rest : List ℕ) (d j e : ℕ) → e ≡ j + d → atWork n top rest e [] [] [] ≡ atWork n top rest j (fresh d) [] []
+fresh-down n top rest zero j e q = ap (λ (x : ℕ). atWork n top rest x [] [] []) (q ∙ omega arith)
+fresh-down n top rest (suc d) j e q = fresh-down n top rest d (suc j) e (omega arith) ∙ level-fill n e top rest j OPEN [] (fresh d) (omega arith) [] []
+
+fresh-length : (d : ℕ) → length (fresh d) ≡ d
+fresh-length zero = refl
+fresh-length (suc d) = ap suc (fresh-length d)
+
+fresh-rows : (h : Header) (i d : ℕ) → i + d ≤ ROWS → Says (freshHeader h) i (fresh d)
+fresh-rows h i zero l = tt
+fresh-rows h i (suc d) l = (
+  getD-replicate ROWS i OPEN 0 (omega arith),
+  getD-replicate ROWS i 0 0 (omega arith),
+  getD-replicate ROWS i 0 0 (omega arith),
+  fresh-rows h (suc i) d (omega arith),
+)
+
+module _ {d : Bare} {xs : List ℕ} {h : Header} {r : Halt} (f : Spent d xs h r) where
+  abbrev n : ℕ
+  n = d .ids
+
+  abbrev L : ℕ
+  L = d .levels
+
+  abbrev t : Through n L (d .top) (d .rest) r xs
+  t = f .through
+
+  xs-length : length xs ≡ workPlace (length (d .top)) L n + n + length (d .rest)
+  xs-length = ap length (t .words) ∙ working-length n L (d .top) (d .rest) L [] (omega arith) tt (t .left) [] (omega (arith, t .room)) (omega arith)
+
+  pub clear-asks : r .at + r .passed ≤ length xs
+  clear-asks = omega (arith, xs-length, t .at, t .passed, t .room)
+
+  pub store-asks : (h .levels ≤ ROWS) × (HEAD + ROW * h .levels ≤ length xs)
+  store-asks = (omega (arith, f .size, f .small), omega (arith, f .size, f .top-length, xs-length))
+
+  cleared : sets xs (r .at) (replicate (r .passed) 0) ≡ atWork n (d .top) (d .rest) 0 (fresh L) [] []
+  cleared =
+      let W = atWork n (d .top) (d .rest) L [] (t .left) [] in
+      let at = stackPlace (length (d .top)) L + 0 in
+      let e₁ : r .passed ≡ length (t .left) - 0 = omega (arith, t .passed) in
+      let e₂ : r .at ≡ at = omega (arith, t .at) in
+      ap (λ (y : List ℕ). sets y (r .at) (replicate (r .passed) 0)) (t .words)
+      ∙ ap (λ (y : ℕ). sets W y (replicate (r .passed) 0)) e₂
+      ∙ ap (λ (y : ℕ). sets W at (replicate y 0)) e₁
+      ∙ passed-store n L (d .top) (d .rest) L [] (omega arith) tt (t .left) [] (omega (arith, t .room)) (omega arith) [] (omega arith)
+      ∙ fresh-down n (d .top) (d .rest) L 0 L (omega arith)
+
+  numbers : Numbers (freshHeader h) n (waiting (fresh L))
+  numbers = record {
+    n-is = f .ids;
+    levels-is = f .size ∙ f .levels-is;
+    waiting-is = sym (ap (tally waits) (fresh-reading L));
+    elements-from = f .elements ∙ ap elementsFrom (f .levels-is);
+    stack-from = f .stack ∙ ap stackFrom (f .levels-is);
+    work-from = f .work ∙ ap (workFrom n) (f .levels-is);
+  }
+
+  pub wiped : sets (sets xs (r .at) (replicate (r .passed) 0)) 0 (wordsOf (freshHeader h)) ≡ layOut n (fresh L) ++ d .rest
+  wiped =
+      ap (λ (y : List ℕ). sets y 0 (wordsOf (freshHeader h))) cleared
+      ∙ stored n (freshHeader h) (fresh L) (fresh-length L ∙ f .levels-is) numbers (fresh-rows h 0 L (omega (arith, f .small))) (d .top) (d .rest) (f .top-length ∙ ap elementsFrom (f .levels-is))

@@ -1,0 +1,2 @@
+-- Ladders: the cuts read off sorted pairs. Assumes nothing.
+pub mod Ladders

@@ -1,0 +1,2 @@
+-- Ladder: the cuts as a table. Assumes nothing.
+pub mod Ladder

@@ -1,0 +1,2 @@
+-- Where: from a sound image and where its way down ended to what the later calls ask. Assumes nothing.
+pub mod Where

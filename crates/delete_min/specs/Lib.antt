@@ -1,0 +1,2 @@
+-- Takes: what Delete-Min answers and leaves. Assumes nothing.
+pub mod Takes

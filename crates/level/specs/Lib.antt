@@ -1,0 +1,4 @@
+-- Place: where an id stands. Step: one update taken. Run: all of them. Assumes nothing.
+pub mod Place
+pub mod Step
+pub mod Run

@@ -1,0 +1,3 @@
+-- Upto: the turns of the loop, an array filled from the front. Anew: the rows of the levels k and k+1. Assumes nothing.
+pub mod Upto
+pub mod Anew

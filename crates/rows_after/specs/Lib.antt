@@ -1,0 +1,2 @@
+-- Rows: the header after a stop. Assumes nothing.
+pub mod Rows

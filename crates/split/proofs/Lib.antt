@@ -1,0 +1,2 @@
+-- Turns: the turns of the two loops. Assumes nothing.
+pub mod Turns

@@ -1,0 +1,2 @@
+-- Split: a part split by a bound. Assumes nothing.
+pub mod Split

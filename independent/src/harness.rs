@@ -2,13 +2,64 @@
 //! calls, and every answer and every word must agree.
 
 use crate::generate::{self, Call, Habits, Random};
+use crate::harness_sheets;
 use crate::image::{self, Answer};
 use crate::mistake;
 use crate::numbers::*;
 use crate::plain::{self, Plain};
+use crate::programs;
+use crate::run;
+use crate::sheet;
 use crate::sound::verdict;
+use crate::writer::{self, Record};
 
-/// The side that is judged. Answers as the page numbers them.
+/// What is compared, one kind of case each.
+#[derive(Clone, Copy, PartialEq, Eq, Debug)]
+pub enum Topic {
+    /// The outward calls of the queue.
+    Queue,
+    /// The acceptance of sheets.
+    Sheet,
+    Writer,
+    Run,
+    /// The two programs, from input to output.
+    Programs,
+}
+
+impl Topic {
+    pub const ALL: [Topic; 5] = [
+        Topic::Queue,
+        Topic::Sheet,
+        Topic::Writer,
+        Topic::Run,
+        Topic::Programs,
+    ];
+
+    pub fn name(self) -> &'static str {
+        match self {
+            Topic::Queue => "queue",
+            Topic::Sheet => "sheet",
+            Topic::Writer => "writer",
+            Topic::Run => "run",
+            Topic::Programs => "programs",
+        }
+    }
+
+    pub fn named(name: &str) -> Option<Topic> {
+        Topic::ALL.into_iter().find(|topic| topic.name() == name)
+    }
+}
+
+/// n, h and the chosen source of an accepted sheet.
+pub type Reading = [u64; 3];
+
+pub fn accept(sheet: &[u8]) -> Result<Reading, u64> {
+    let sheet = sheet::accept(sheet)?;
+    Ok([sheet.n, sheet.h, sheet.source].map(|number| number as u64))
+}
+
+/// The side that is judged. Answers as the page numbers them; where a side has
+/// no function of its own the independent one stands in, without mistakes.
 pub trait Judged {
     fn fresh(&self, image: &mut [u64], n: u64) -> Answer;
     fn decrease(&self, image: &mut [u64], id: u64, key: u64) -> Answer;
@@ -18,6 +69,47 @@ pub trait Judged {
     /// `None` while the side has no Delete-Min: then the independent one
     /// advances both copies.
     fn delete_min(&self, image: &mut [u64]) -> Option<Answer>;
+
+    fn accept(&self, sheet: &[u8]) -> Result<Reading, u64> {
+        mistake::without(|| accept(sheet))
+    }
+
+    /// The length written.
+    fn write(
+        &self,
+        target: &mut [u8],
+        n: u64,
+        source: u64,
+        records: &[Record],
+    ) -> Result<u64, u64> {
+        mistake::without(|| writer::write(target, n, source, records)).map(|length| length as u64)
+    }
+
+    /// The number reached.
+    fn distances(
+        &self,
+        sheet: &[u8],
+        distances: &mut [u64],
+        image: &mut [u64],
+    ) -> Result<u64, u64> {
+        mistake::without(|| run::distances(sheet, distances, image))
+    }
+}
+
+/// Programs that are judged: from input to output, or why there is none.
+pub trait Programs {
+    fn queue(&self, input: &[u8]) -> Result<Vec<u8>, Failure>;
+    fn distances(&self, input: &[u8]) -> Result<Vec<u8>, Failure>;
+    /// How many scripts a case puts into one input of `queue`, and how many
+    /// inputs of `distances` it has.
+    fn batch(&self) -> (usize, usize);
+}
+
+/// Both sides that can be judged.
+#[derive(Clone, Copy)]
+pub struct Sides<'a> {
+    pub calls: &'a dyn Judged,
+    pub programs: &'a dyn Programs,
 }
 
 /// The independent code without mistakes, as the judged side: shows what the
@@ -49,16 +141,38 @@ impl Judged for Itself {
     }
 }
 
+impl Programs for Itself {
+    fn queue(&self, input: &[u8]) -> Result<Vec<u8>, Failure> {
+        Ok(mistake::without(|| programs::queue(input)))
+    }
+
+    fn distances(&self, input: &[u8]) -> Result<Vec<u8>, Failure> {
+        Ok(mistake::without(|| programs::distances(input)))
+    }
+
+    fn batch(&self) -> (usize, usize) {
+        (1, 1)
+    }
+}
+
 #[derive(Clone, Debug, Default)]
 pub struct Counts {
     pub cases: u64,
+    /// Calls of the queue, and what was answered.
     pub calls: u64,
-    pub judged: u64,
     pub taken: u64,
     pub mins: u64,
     pub empty: u64,
-    /// By number, 1 to 5.
-    pub refused: [u64; 6],
+    pub judged: u64,
+    pub sheets_accepted: u64,
+    pub sheets_written: u64,
+    pub runs: u64,
+    /// Inputs of `queue` and their lines, inputs of `distances`.
+    pub scripts: u64,
+    pub lines: u64,
+    pub inputs: u64,
+    /// By number, 1 to 25, of calls; those a program prints are not counted.
+    pub refused: [u64; 26],
 }
 
 impl Counts {
@@ -68,17 +182,35 @@ impl Counts {
             Answer::Taken => self.taken += 1,
             Answer::Min { .. } => self.mins += 1,
             Answer::Empty { .. } => self.empty += 1,
-            Answer::Refused(number) => self.refused[number as usize % 6] += 1,
+            Answer::Refused(number) => self.note_refused(number),
         }
     }
 
+    pub fn note_refused(&mut self, number: u64) {
+        self.refused[number as usize % 26] += 1;
+    }
+
+    /// What was met, in one line.
     pub fn line(&self) -> String {
-        let [_, one, two, three, four, five] = self.refused;
-        format!(
-            "{} cases, {} calls ({} taken, {} min, {} empty), {} judgements, \
-             refused 1: {one}, 2: {two}, 3: {three}, 4: {four}, 5: {five}",
-            self.cases, self.calls, self.taken, self.mins, self.empty, self.judged
-        )
+        let met = [
+            ("cases", self.cases),
+            ("calls", self.calls),
+            ("taken", self.taken),
+            ("min", self.mins),
+            ("empty", self.empty),
+            ("judgements", self.judged),
+            ("sheets accepted", self.sheets_accepted),
+            ("sheets written", self.sheets_written),
+            ("runs", self.runs),
+            ("scripts", self.scripts),
+            ("lines of them", self.lines),
+            ("inputs of distances", self.inputs),
+        ];
+        let met = met.into_iter().filter(|&(_, count)| count > 0);
+        let met = met.map(|(name, count)| format!("{count} {name}"));
+        let refused = (0..).zip(self.refused).filter(|&(_, count)| count > 0);
+        let refused = refused.map(|(number, count)| format!("refused {number}: {count}"));
+        met.chain(refused).collect::<Vec<String>>().join(", ")
     }
 }
 
@@ -86,7 +218,7 @@ impl Counts {
 pub type Failure = String;
 
 /// Words put around each slice: no call may touch them.
-const GUARD: usize = 8;
+pub const GUARD: usize = 8;
 
 /// The same slice twice.
 struct Twins<'a> {
@@ -177,17 +309,32 @@ impl<'a> Twins<'a> {
 
 /// One case; the same seed and number always make the same case.
 pub fn run_case(
+    topic: Topic,
     seed: u64,
     case: u64,
+    sides: Sides,
+    counts: &mut Counts,
+) -> Result<(), Failure> {
+    let random = &mut Random::for_case(seed, case);
+    counts.cases += 1;
+    match topic {
+        Topic::Queue => queue_case(random, sides.calls, counts),
+        Topic::Sheet => harness_sheets::sheet_case(random, sides.calls, counts),
+        Topic::Writer => harness_sheets::writer_case(random, sides.calls, counts),
+        Topic::Run => harness_sheets::run_case(random, sides.calls, counts),
+        Topic::Programs => harness_sheets::program_case(random, sides.programs, counts),
+    }
+}
+
+fn queue_case(
+    random: &mut Random,
     judged: &dyn Judged,
     counts: &mut Counts,
 ) -> Result<(), Failure> {
-    let mut random = Random::for_case(seed, case);
-    counts.cases += 1;
     match random.below(10) {
-        0..=4 => session_case(&mut random, judged, counts),
-        5..=8 => damage_case(&mut random, judged, counts),
-        _ => fresh_case(&mut random, judged, counts),
+        0..=4 => session_case(random, judged, counts),
+        5..=8 => damage_case(random, judged, counts),
+        _ => fresh_case(random, judged, counts),
     }
 }
 

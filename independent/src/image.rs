@@ -285,6 +285,21 @@ fn bound_last_filled(image: &mut [u64], ascending: &[u64]) {
 // Delete-Min
 
 pub fn inner_delete_min(image: &mut [u64]) -> Answer {
+    inner_delete_min_by(image, Taking::Either)
+}
+
+/// How a level takes its updates. What comes of it is the same.
+#[derive(Clone, Copy, PartialEq, Eq, Debug)]
+pub enum Taking {
+    /// Whichever is likely to be quicker.
+    Either,
+    /// Each is looked up by itself, however many there are.
+    ByLookup,
+    /// Grouped by id, however few there are.
+    ByGroup,
+}
+
+pub fn inner_delete_min_by(image: &mut [u64], taking: Taking) -> Answer {
     let layout = Layout::of(image[0]);
     for level in 0..layout.levels {
         if hands_all_on(image, &layout, level) {
@@ -292,7 +307,7 @@ pub fn inner_delete_min(image: &mut [u64]) -> Answer {
             image[update_count_at(level)] = 0;
             continue;
         }
-        let here = take_updates(image, &layout, level);
+        let here = take_updates(image, &layout, level, taking);
         if here > 0 {
             return stop_at(image, &layout, level, here);
         }
@@ -318,7 +333,7 @@ fn hands_all_on(image: &[u64], layout: &Layout, level: usize) -> bool {
 
 /// The level takes its updates in order and passes on what it must. Its
 /// elements move to the work area, ascending by id; their number is returned.
-fn take_updates(image: &mut [u64], layout: &Layout, level: usize) -> usize {
+fn take_updates(image: &mut [u64], layout: &Layout, level: usize, taking: Taking) -> usize {
     let first = layout.updates_start(image, level);
     let count = image[update_count_at(level)] as usize;
     let here = move_to_work(image, layout, level);
@@ -326,7 +341,12 @@ fn take_updates(image: &mut [u64], layout: &Layout, level: usize) -> usize {
     let (front, work) = image[..layout.need].split_at_mut(layout.work);
     let updates = &mut front[first..first + count];
     let counted_before = counted(updates);
-    let here = if count <= FEW {
+    let by_lookup = match taking {
+        Taking::Either => count <= FEW || here + count <= SMALL,
+        Taking::ByLookup => true,
+        Taking::ByGroup => false,
+    };
+    let here = if by_lookup {
         take_in_order(updates, work, here, bound)
     } else {
         take_by_id(updates, work, here, bound)
@@ -367,9 +387,11 @@ fn move_to_work(image: &mut [u64], layout: &Layout, level: usize) -> usize {
 /// No update word is zero: it marks a place of the stack that passes nothing.
 const ENDED: u64 = 0;
 
-/// Up to this many updates are taken one by one; more are grouped by id, so
-/// that many entering pairs do not each move all elements behind them.
+/// Up to this many updates are taken one by one, and more of them at a level
+/// that stays small; else they are grouped by id, so that many entering pairs
+/// do not each move many elements behind them.
 const FEW: usize = 16;
+const SMALL: usize = 4_096;
 
 /// What one update does: the pair that is here afterwards, and the word that
 /// is passed on in its place.

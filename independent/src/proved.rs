@@ -1,7 +1,13 @@
 //! The proved library, through its C functions.
 
 use crate::harness::Judged;
+#[cfg(feature = "proved_sheet")]
+use crate::harness::Reading;
 use crate::image::Answer;
+#[cfg(feature = "proved_inner")]
+use crate::run::Queue;
+#[cfg(feature = "proved_writer")]
+use crate::writer::Record;
 
 extern "C" {
     fn lq_fresh(image: *mut u64, words: usize, n: u64) -> u64;
@@ -15,6 +21,50 @@ extern "C" {
         id: *mut u64,
         key: *mut u64,
         reach: *mut u64,
+    ) -> u64;
+    #[cfg(feature = "proved_inner")]
+    fn lq_inner_decrease(image: *mut u64, words: usize, id: u64, key: u64);
+    #[cfg(feature = "proved_inner")]
+    fn lq_inner_delete(image: *mut u64, words: usize, id: u64);
+    #[cfg(feature = "proved_inner")]
+    fn lq_inner_delete_min(
+        image: *mut u64,
+        words: usize,
+        id: *mut u64,
+        key: *mut u64,
+        reach: *mut u64,
+    ) -> u64;
+    #[cfg(feature = "proved_sheet")]
+    fn lq_accept(
+        bytes: *const u8,
+        length: usize,
+        n: *mut u64,
+        h: *mut u64,
+        source: *mut u64,
+    ) -> u64;
+    #[cfg(feature = "proved_writer")]
+    fn lq_write(
+        target: *mut u8,
+        length: usize,
+        n: u64,
+        source: u64,
+        ones: *const u64,
+        one_count: usize,
+        others: *const u64,
+        other_count: usize,
+        weights: *const u64,
+        weight_count: usize,
+        written: *mut u64,
+    ) -> u64;
+    #[cfg(feature = "proved_run")]
+    fn lq_distances(
+        sheet: *const u8,
+        length: usize,
+        distances: *mut u64,
+        distance_words: usize,
+        image: *mut u64,
+        image_words: usize,
+        reached: *mut u64,
     ) -> u64;
 }
 
@@ -69,5 +119,115 @@ impl Judged for Proved {
             1 => Answer::Empty { reach },
             _ => Answer::Refused(number),
         })
+    }
+
+    #[cfg(feature = "proved_sheet")]
+    fn accept(&self, sheet: &[u8]) -> Result<Reading, u64> {
+        let (mut n, mut h, mut source) = (0, 0, 0);
+        let number = unsafe { lq_accept(sheet.as_ptr(), sheet.len(), &mut n, &mut h, &mut source) };
+        taken_or(number, [n, h, source])
+    }
+
+    /// The records go in as three slices, which must come back unchanged.
+    #[cfg(feature = "proved_writer")]
+    fn write(
+        &self,
+        target: &mut [u8],
+        n: u64,
+        source: u64,
+        records: &[Record],
+    ) -> Result<u64, u64> {
+        let parts = |part: fn(&Record) -> u64| records.iter().map(part).collect::<Vec<u64>>();
+        let mut ones = parts(|record| record.one);
+        let mut others = parts(|record| record.other);
+        let mut weights = parts(|record| record.weight);
+        let mut written = 0;
+        let number = unsafe {
+            lq_write(
+                target.as_mut_ptr(),
+                target.len(),
+                n,
+                source,
+                ones.as_mut_ptr(),
+                ones.len(),
+                others.as_mut_ptr(),
+                others.len(),
+                weights.as_mut_ptr(),
+                weights.len(),
+                &mut written,
+            )
+        };
+        assert_eq!(
+            ones,
+            parts(|record| record.one),
+            "lq_write changed a lent slice"
+        );
+        assert_eq!(
+            others,
+            parts(|record| record.other),
+            "lq_write changed a lent slice"
+        );
+        assert_eq!(
+            weights,
+            parts(|record| record.weight),
+            "lq_write changed a lent slice"
+        );
+        taken_or(number, written)
+    }
+
+    #[cfg(feature = "proved_run")]
+    fn distances(
+        &self,
+        sheet: &[u8],
+        distances: &mut [u64],
+        image: &mut [u64],
+    ) -> Result<u64, u64> {
+        let mut reached = 0;
+        let number = unsafe {
+            lq_distances(
+                sheet.as_ptr(),
+                sheet.len(),
+                distances.as_mut_ptr(),
+                distances.len(),
+                image.as_mut_ptr(),
+                image.len(),
+                &mut reached,
+            )
+        };
+        taken_or(number, reached)
+    }
+}
+
+#[cfg(any(
+    feature = "proved_sheet",
+    feature = "proved_writer",
+    feature = "proved_run"
+))]
+fn taken_or<T>(number: u64, answer: T) -> Result<T, u64> {
+    match number {
+        0 => Ok(answer),
+        _ => Err(number),
+    }
+}
+
+/// The proved inner calls on a sound image, for the bench.
+#[cfg(feature = "proved_inner")]
+pub struct Inner<'a>(pub &'a mut [u64]);
+
+#[cfg(feature = "proved_inner")]
+impl Queue for Inner<'_> {
+    fn decrease(&mut self, id: u64, key: u64) {
+        unsafe { lq_inner_decrease(self.0.as_mut_ptr(), self.0.len(), id, key) }
+    }
+
+    fn delete(&mut self, id: u64) {
+        unsafe { lq_inner_delete(self.0.as_mut_ptr(), self.0.len(), id) }
+    }
+
+    fn delete_min(&mut self) -> Option<(u64, u64)> {
+        let (mut id, mut key, mut reach) = (0, 0, 0);
+        let (image, words) = (self.0.as_mut_ptr(), self.0.len());
+        let number = unsafe { lq_inner_delete_min(image, words, &mut id, &mut key, &mut reach) };
+        (number == 0).then_some((id, key))
     }
 }

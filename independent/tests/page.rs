@@ -1,8 +1,12 @@
-//! The page's listing and its bench examples (a) to (h).
+//! The page's listing and its bench examples (a) to (j).
 
 use independent::image::{self, levels, need, Answer};
 use independent::numbers::*;
+use independent::programs;
+use independent::run;
+use independent::sheet;
 use independent::sound::{sound_by_clauses, verdict, Verdict};
+use independent::writer::{self, Record};
 
 const TAKEN: Answer = Answer::Taken;
 
@@ -129,6 +133,65 @@ fn h_the_fifth_waiting_update_tidies() {
         (updates(&words, 0), words[2]),
         ([update(DELETE, 2)].as_slice(), 1)
     );
+}
+
+/// The bytes of 32-bit numbers, lowest first.
+fn bytes(numbers: &[u32]) -> Vec<u8> {
+    numbers
+        .iter()
+        .flat_map(|number| number.to_le_bytes())
+        .collect()
+}
+
+const SHEET_I: [u32; 22] = [
+    4, 6, 20, 40, 0, // n, h, offsets, source
+    0, 2, 4, 6, 6, // row starts
+    1, 2, 2, 5, // vertex 0
+    0, 2, 2, 2, // vertex 1
+    0, 5, 1, 2, // vertex 2
+];
+
+#[test]
+fn i_a_sheet_of_four_vertices() {
+    let sheet = bytes(&SHEET_I);
+    assert_eq!(sheet.len(), 88);
+    let mut distances = [7; 5];
+    let mut image = vec![7; need(4) + 1];
+    assert_eq!(run::distances(&sheet, &mut distances, &mut image), Ok(3));
+    assert_eq!(distances, [0, 2, 4, 1 << 40, 7]);
+    assert_eq!((&image[..38], image[38]), (&fresh(4)[..], 7));
+    let output = programs::distances(&sheet);
+    assert_eq!(output, b"reached 3 of 4\n0 0\n1 2\n2 4\n3 -\n");
+}
+
+/// The records of (i) in another order, one the other way round.
+#[test]
+fn i_written() {
+    let record = |one, other, weight| Record { one, other, weight };
+    let records = [record(2, 0, 5), record(0, 1, 2), record(1, 2, 2)];
+    let mut target = [9; 90];
+    assert_eq!(writer::write(&mut target, 4, 0, &records), Ok(88));
+    assert_eq!(target[..88], bytes(&SHEET_I));
+    assert_eq!(target[88..], [9, 9]);
+}
+
+#[test]
+fn j_one_vertex_alone() {
+    let sheet = bytes(&[1, 0, 20, 28, 0, 0, 0]);
+    let accepted = sheet::accept(&sheet).unwrap();
+    assert_eq!((accepted.n, accepted.h, accepted.source), (1, 0, 0));
+    let (mut distances, mut image) = ([7], [7; 14]);
+    assert_eq!(run::distances(&sheet, &mut distances, &mut image), Ok(1));
+    assert_eq!((distances, &image[..]), ([0], &fresh(1)[..]));
+    assert_eq!(programs::distances(&sheet), b"reached 1 of 1\n0 0\n");
+}
+
+#[test]
+fn the_listing_of_queue() {
+    let input = b"new 4\ndec 2 7\ndec 0 5\ndec 3 5\nmin\nmin\ndec 1 9\ndel 2\nmin\nmin";
+    let output = b"min 0 5 1\nmin 3 5 2\nmin 1 9 2\nempty 3\n";
+    assert_eq!(programs::queue(input), output);
+    assert_eq!(programs::queue(&[&input[..], b"\n"].concat()), output);
 }
 
 #[test]

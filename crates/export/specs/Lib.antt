@@ -1,3 +1,5 @@
--- Numbered, MinNumbered: answers by their numbers. Assumes nothing.
+-- Numbered, MinNumbered, SheetNumbered, RunNumbered: answers by their numbers. Assumes nothing.
 pub mod Numbered
 pub mod MinNumbered
+pub mod SheetNumbered
+pub mod RunNumbered

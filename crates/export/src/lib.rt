@@ -8,9 +8,14 @@ ghost use Rattle.layout.specs.SoundImage.{nOf, SoundImage};
 ghost use Rattle.layout.specs.Calls.{freshCall, pushCall, decreaseCall, deleteCall, ByVerdict};
 ghost use Rattle.level_queue.specs.Answers.{outcome, Refusal};
 ghost use Rattle.export.specs.Numbered.{numberIn, Numbered};
+ghost use Rattle.sheet.specs.Answer.{acceptOf};
+ghost use Rattle.export.specs.RunNumbered.{RunGiven, RunAnswered};
+ghost use Rattle.export.specs.SheetNumbered.{SheetGiven};
 ghost use Rattle.export.specs.MinNumbered.{MinGiven, MinAnswered, InnerAnswered};
 use level_queue::Answer;
 use level_queue::MinAnswer;
+use run::RunAnswer;
+use sheet::Acceptance;
 
 // The number that an answer goes out by.
 fn number(a: Answer) -> u64
@@ -121,4 +126,61 @@ pub extern "C" fn lq_inner_delete_min(
     let p = level_queue::inner_delete_min(image);
     let a = level_queue::given(p);
     give(a, id, key, reach)
+}
+
+// ---- sheets
+
+// What a sheet's acceptance goes out as: 0 with its n, its h and the chosen source, or the refusal, with nothing written.
+fn give_sheet(a: Acceptance, n: &mut u64, h: &mut u64, source: &mut u64) -> u64
+    ensures { λ r. ⌜ SheetGiven r a (now (n .entry)) (now (h .entry)) (now (source .entry)) (now (n .exit)) (now (h .exit)) (now (source .exit)) ⌝ }
+{
+    match a {
+        Acceptance::Sheet {
+            n: m,
+            h: k,
+            source: v,
+        } => {
+            *n = m as u64;
+            *h = k as u64;
+            *source = v as u64;
+            0
+        }
+        Acceptance::Refused(k) => k,
+    }
+}
+
+#[no_mangle]
+pub extern "C" fn lq_accept(sheet: &[u8], n: &mut u64, h: &mut u64, source: &mut u64) -> u64
+    ensures { λ r. ⌜ SheetGiven r (acceptOf (now (sheet .entry))) (now (n .entry)) (now (h .entry)) (now (source .entry)) (now (n .exit)) (now (h .exit)) (now (source .exit)) ⌝ }
+{
+    let a = sheet::accept(sheet);
+    give_sheet(a, n, h, source)
+}
+
+// ---- the run
+
+// 0 with the number reached, or the refusal, with nothing written.
+fn give_run(a: RunAnswer, reached: &mut u64) -> u64
+    ensures { λ r. ⌜ RunGiven r a (now (reached .entry)) (now (reached .exit)) ⌝ }
+{
+    match a {
+        RunAnswer::Reached(k) => {
+            *reached = k;
+            0
+        }
+        RunAnswer::Refused(k) => k,
+    }
+}
+
+#[no_mangle]
+pub extern "C" fn lq_distances(
+    sheet: &[u8],
+    distances: &mut [u64],
+    image: &mut [u64],
+    reached: &mut u64,
+) -> u64
+    ensures { λ r. ⌜ RunAnswered r (now (sheet .entry)) (now (distances .entry)) (now (image .entry)) (now (distances .exit)) (now (image .exit)) (now (reached .entry)) (now (reached .exit)) ⌝ }
+{
+    let a = run::distances(sheet, distances, image);
+    give_run(a, reached)
 }

@@ -1,10 +1,16 @@
-//! Compares the independent queue with the proved library, call by call.
+//! Compares the independent code with what is judged: the queue's calls, the
+//! acceptance of sheets, the writer and the run of the proved library, call by
+//! call; the two built programs, input by input.
 //!
-//! compare [--seconds S] [--seed N] [--only CASE] [--trace]
-//!         [--mistake NAME] [--mistakes]
+//! compare [--topic NAME] [--seconds S] [--seed N] [--only CASE] [--trace]
+//!         [--queue PATH] [--distances PATH] [--mistake NAME] [--mistakes]
 
-use independent::harness::{run_case, Counts, Failure};
+#[cfg(not(feature = "proved"))]
+use independent::harness::Itself;
+use independent::harness::{run_case, Counts, Failure, Judged, Sides, Topic};
 use independent::mistake::{self, Mistake};
+use independent::process::Processes;
+#[cfg(feature = "proved")]
 use independent::proved::Proved;
 use std::panic::{catch_unwind, AssertUnwindSafe};
 use std::process::ExitCode;
@@ -14,17 +20,73 @@ use std::time::{Duration, Instant};
 const MISTAKE_SECONDS: u64 = 30;
 
 struct Wishes {
+    topic: Option<Topic>,
     seconds: u64,
     seed: u64,
     only: Option<u64>,
+    programs: Processes,
     mistake: Option<Mistake>,
     all_mistakes: bool,
     /// Names every case before it runs: for a library that ends the program.
     trace: bool,
 }
 
-const USAGE: &str = "compare [--seconds S] [--seed N] [--only CASE] [--trace] \
-                     [--mistake NAME] [--mistakes]";
+const USAGE: &str = "compare [--topic NAME] [--seconds S] [--seed N] [--only CASE] [--trace] \
+                     [--queue PATH] [--distances PATH] [--mistake NAME] [--mistakes]";
+
+#[cfg(feature = "proved")]
+const CALLS: &dyn Judged = &Proved;
+#[cfg(not(feature = "proved"))]
+const CALLS: &dyn Judged = &Itself { has_min: true };
+
+impl Wishes {
+    fn sides(&self) -> Sides<'_> {
+        Sides {
+            calls: CALLS,
+            programs: &self.programs,
+        }
+    }
+
+    /// Whether something else than the independent code is judged.
+    fn is_judged(&self, topic: Topic) -> bool {
+        match topic {
+            Topic::Queue => cfg!(feature = "proved"),
+            Topic::Sheet => cfg!(feature = "proved_sheet"),
+            Topic::Writer => cfg!(feature = "proved_writer"),
+            Topic::Run => cfg!(feature = "proved_run"),
+            Topic::Programs => self.programs.queue.is_some() || self.programs.distances.is_some(),
+        }
+    }
+
+    /// What else a case needs to run again as it did.
+    fn switches(&self) -> String {
+        let mut switches = String::new();
+        if let Some(path) = &self.programs.queue {
+            switches += &format!(" --queue {}", path.display());
+        }
+        if let Some(path) = &self.programs.distances {
+            switches += &format!(" --distances {}", path.display());
+        }
+        if let Some(mistake) = self.mistake {
+            switches += &format!(" --mistake {}", mistake.name());
+        }
+        switches
+    }
+
+    /// The topic asked for; else all that have something to judge; else all,
+    /// by the independent code itself.
+    fn topics(&self) -> Vec<Topic> {
+        if let Some(topic) = self.topic {
+            return vec![topic];
+        }
+        let mut topics = Topic::ALL.to_vec();
+        topics.retain(|&topic| self.is_judged(topic));
+        if topics.is_empty() {
+            return Topic::ALL.to_vec();
+        }
+        topics
+    }
+}
 
 fn main() -> ExitCode {
     let wishes = match wishes() {
@@ -49,9 +111,11 @@ fn main() -> ExitCode {
 
 fn wishes() -> Result<Wishes, String> {
     let mut wishes = Wishes {
+        topic: None,
         seconds: 10,
         seed: 1,
         only: None,
+        programs: Processes::default(),
         mistake: None,
         all_mistakes: false,
         trace: false,
@@ -79,9 +143,17 @@ fn read_value(wishes: &mut Wishes, word: &str, value: Option<String>) -> Result<
         "--seed" => wishes.seed = number()?,
         "--only" => wishes.only = Some(number()?),
         "--mistake" => wishes.mistake = Some(mistake_named(&value)?),
+        "--topic" => wishes.topic = Some(topic_named(&value)?),
+        "--queue" => wishes.programs.queue = Some(value.into()),
+        "--distances" => wishes.programs.distances = Some(value.into()),
         _ => return Err(format!("{word} is not known")),
     }
     Ok(())
+}
+
+fn topic_named(name: &str) -> Result<Topic, String> {
+    let names = Topic::ALL.map(Topic::name);
+    Topic::named(name).ok_or_else(|| format!("no topic {name}; there are {}", names.join(" ")))
 }
 
 fn mistake_named(name: &str) -> Result<Mistake, String> {
@@ -96,19 +168,33 @@ fn mistake_named(name: &str) -> Result<Mistake, String> {
 }
 
 /// A panic of the independent side is a failing case like any other.
-fn guarded_case(seed: u64, case: u64, counts: &mut Counts) -> Result<(), Failure> {
-    let run = AssertUnwindSafe(|| run_case(seed, case, &Proved, counts));
-    catch_unwind(run).unwrap_or_else(|_| Err("the independent side panicked".to_string()))
+fn guarded_case(
+    wishes: &Wishes,
+    topic: Topic,
+    case: u64,
+    counts: &mut Counts,
+) -> Result<(), Failure> {
+    if wishes.trace {
+        eprintln!("{} case {case}", topic.name());
+    }
+    let run = AssertUnwindSafe(|| run_case(topic, wishes.seed, case, wishes.sides(), counts));
+    catch_unwind(run).unwrap_or_else(|panic| {
+        let words = panic.downcast_ref::<String>().map(String::as_str);
+        let words = words.or(panic.downcast_ref::<&str>().copied());
+        Err(format!("a panic: {}", words.unwrap_or("without words")))
+    })
 }
 
 /// Cases until the time is over or one fails.
-fn run(wishes: &Wishes, time: Duration, counts: &mut Counts) -> Result<(), (u64, Failure)> {
+fn run(
+    wishes: &Wishes,
+    topic: Topic,
+    time: Duration,
+    counts: &mut Counts,
+) -> Result<(), (u64, Failure)> {
     let start = Instant::now();
     for case in 0.. {
-        if wishes.trace {
-            eprintln!("case {case}");
-        }
-        guarded_case(wishes.seed, case, counts).map_err(|failure| (case, failure))?;
+        guarded_case(wishes, topic, case, counts).map_err(|failure| (case, failure))?;
         if start.elapsed() >= time {
             break;
         }
@@ -116,48 +202,72 @@ fn run(wishes: &Wishes, time: Duration, counts: &mut Counts) -> Result<(), (u64,
     Ok(())
 }
 
+/// All topics, each with its share of the time.
 fn compare(wishes: &Wishes) -> bool {
+    let topics = match (wishes.topic, wishes.mistake, wishes.only) {
+        (Some(topic), ..) => vec![topic],
+        (None, Some(mistake), _) => vec![mistake.topic()],
+        // A case number belongs to one topic.
+        (None, None, Some(_)) => vec![Topic::Queue],
+        (None, None, None) => wishes.topics(),
+    };
+    let time = Duration::from_secs(wishes.seconds) / topics.len() as u32;
+    let mut good = true;
+    for topic in topics {
+        good &= compare_topic(wishes, topic, time);
+    }
+    good
+}
+
+fn compare_topic(wishes: &Wishes, topic: Topic, time: Duration) -> bool {
     mistake::set(wishes.mistake);
-    let mut counts = Counts::default();
+    let (mut counts, start) = (Counts::default(), Instant::now());
     let outcome = match wishes.only {
         Some(case) => {
-            guarded_case(wishes.seed, case, &mut counts).map_err(|failure| (case, failure))
+            guarded_case(wishes, topic, case, &mut counts).map_err(|failure| (case, failure))
         }
-        None => run(wishes, Duration::from_secs(wishes.seconds), &mut counts),
+        None => run(wishes, topic, time, &mut counts),
     };
+    mistake::set(None);
     if let Err((case, failure)) = &outcome {
-        println!("FAILED: seed {} case {case}: {failure}", wishes.seed);
-        let switch = wishes
-            .mistake
-            .map(|mistake| format!(" --mistake {}", mistake.name()));
-        let switch = switch.unwrap_or_default();
-        println!(
-            "again alone: compare --seed {} --only {case}{switch}",
-            wishes.seed
-        );
+        let (name, seed) = (topic.name(), wishes.seed);
+        println!("FAILED: {name} seed {seed} case {case}: {failure}");
+        let switches = wishes.switches();
+        println!("again alone: compare --topic {name} --seed {seed} --only {case}{switches}");
     }
-    println!("{}", counts.line());
+    let side = match wishes.is_judged(topic) {
+        true => "",
+        false => " (the independent code beside itself)",
+    };
+    let each = counts.cases as f64 / start.elapsed().as_secs_f64();
+    println!(
+        "{}{side}: {}; {each:.0} cases a second",
+        topic.name(),
+        counts.line()
+    );
     outcome.is_ok()
 }
 
-/// Runs every mistake; each must be noticed.
+/// Runs every mistake of the topics; each must be noticed.
 fn all_mistakes(wishes: &Wishes) -> bool {
     std::panic::set_hook(Box::new(|_| {}));
     let (mut noticed, mut missed, mut left_out) = (0, 0, 0);
-    for mistake in Mistake::all() {
+    let topics = wishes.topics();
+    let mistakes = Mistake::all().into_iter();
+    for mistake in mistakes.filter(|mistake| topics.contains(&mistake.topic())) {
         let name = mistake.name();
-        if mistake.needs_min() && !cfg!(feature = "proved_min") {
-            println!("{name:26} left out: it takes the feature proved_min");
+        if mistake.needs_min() && cfg!(all(feature = "proved", not(feature = "proved_min"))) {
+            println!("{name:28} left out: it takes the feature proved_min");
             left_out += 1;
             continue;
         }
         match notice(wishes, mistake) {
             Ok(how) => {
-                println!("{name:26} noticed in {how}");
+                println!("{name:28} noticed in {how}");
                 noticed += 1;
             }
             Err(why) => {
-                println!("{name:26} NOT NOTICED: {why}");
+                println!("{name:28} NOT NOTICED: {why}");
                 missed += 1;
             }
         }
@@ -169,16 +279,17 @@ fn all_mistakes(wishes: &Wishes) -> bool {
 /// How a mistake shows. The case in which it shows must pass without it: else
 /// it is not the mistake that was noticed.
 fn notice(wishes: &Wishes, mistake: Mistake) -> Result<String, String> {
+    let topic = mistake.topic();
     mistake::set(Some(mistake));
     let start = Instant::now();
     let time = Duration::from_secs(MISTAKE_SECONDS);
-    let outcome = run(wishes, time, &mut Counts::default());
+    let outcome = run(wishes, topic, time, &mut Counts::default());
     mistake::set(None);
     let Err((case, failure)) = outcome else {
         return Err(format!("no case failed in {MISTAKE_SECONDS} seconds"));
     };
     let milliseconds = start.elapsed().as_millis();
-    match guarded_case(wishes.seed, case, &mut Counts::default()) {
+    match guarded_case(wishes, topic, case, &mut Counts::default()) {
         Ok(()) => Ok(format!("case {case} after {milliseconds} ms: {failure}")),
         Err(failure) => Err(format!("case {case} fails without it too: {failure}")),
     }

@@ -1,6 +1,6 @@
-//! Times the independent queue, and the proved one beside it when the feature
-//! `proved` is on. Both run in turn in every round; the least time counts.
+//! Single calls: the test of soundness, fresh images, pushes.
 
+use crate::timing::Watch;
 use independent::generate::Random;
 use independent::harness::Judged;
 use independent::image::{self, need};
@@ -8,17 +8,16 @@ use independent::numbers::*;
 use independent::reading::plain_reading;
 use independent::sound::{verdict, Verdict};
 use std::hint::black_box;
-use std::time::Instant;
 
 const ROUNDS: usize = 25;
 /// A round of one side lasts about so long: enough to read a clock by.
-const ROUND_NANOSECONDS: u128 = 2_000_000;
+const ROUND_NANOSECONDS: f64 = 2e6;
 
 /// Something to be timed on an image.
 type Work<'a> = dyn FnMut(&mut [u64]) + 'a;
 
-fn main() {
-    println!("least of {ROUNDS} rounds, nanoseconds a call");
+pub fn print() {
+    println!("Single calls: nanoseconds a call, least of {ROUNDS} rounds");
     println!(
         "{:34}{:>14}{:>14}{:>9}",
         "", "independent", "proved", "ratio"
@@ -178,11 +177,11 @@ fn least_times<const SIDES: usize>(image: &[u64], mut sides: [&mut Work; SIDES])
         for turn in 0..SIDES {
             // The sides take turns at going first.
             let side = (turn + round) % SIDES;
-            let start = Instant::now();
+            let start = Watch::start();
             for _ in 0..times[side] {
                 sides[side](&mut copies[side]);
             }
-            let time = start.elapsed().as_nanos() as f64 / f64::from(times[side]);
+            let time = start.nanoseconds() / f64::from(times[side]);
             least[side] = least[side].min(time);
         }
     }
@@ -191,12 +190,12 @@ fn least_times<const SIDES: usize>(image: &[u64], mut sides: [&mut Work; SIDES])
 
 /// How often a call fits into a round.
 fn repeats(image: &mut [u64], side: &mut Work) -> u32 {
-    let start = Instant::now();
+    let start = Watch::start();
     for _ in 0..10 {
         side(image);
     }
-    let one = start.elapsed().as_nanos() / 10;
-    (ROUND_NANOSECONDS / one.max(1)).clamp(10, 1_000_000) as u32
+    let one = start.nanoseconds() / 10.0;
+    (ROUND_NANOSECONDS / one.max(1.0)).clamp(10.0, 1e6) as u32
 }
 
 fn print_row(name: &str, independent: f64, proved: Option<f64>) {

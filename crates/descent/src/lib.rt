@@ -65,9 +65,6 @@ pub fn go_down(img: &mut [u64], h: Header, end: usize) -> Halt
     let levels = h.levels as usize;
     let first = h.elements_at as usize;
     let work = h.work_at as usize;
-    let b = h.bounds;
-    let e = h.element_counts;
-    let u = h.update_counts;
     let mut at = end;
     let mut held = 0;
     let mut passed = 0;
@@ -79,27 +76,20 @@ pub fn go_down(img: &mut [u64], h: Header, end: usize) -> Halt
         if i >= levels {
             break i;
         }
-        let m = e[i] as usize;
-        let own = u[i] as usize;
+        let m = h.element_counts[i] as usize;
+        let own = h.update_counts[i] as usize;
         at -= own;
-        let t = visit(
-            img,
-            first + (width - 1),
-            m,
-            work,
-            n,
-            at,
-            own + passed,
-            b[i],
-            floor,
-        );
+        let bound = h.bounds[i];
+        let from = first + (width - 1);
+        let count = own + passed;
+        let t = visit(img, from, m, work, n, at, count, bound, floor);
         held = t.elements;
         passed = t.passed;
         ended += t.ended;
         if 0 < held {
             break i;
         }
-        floor = b[i] + 1;
+        floor = bound + 1;
         width *= 2;
         i += 1;
     };

@@ -10,12 +10,15 @@ ghost use Rattle.level_queue.specs.Answers.{outcome, Refusal};
 ghost use Rattle.export.specs.Numbered.{numberIn, Numbered};
 ghost use Rattle.sheet.specs.Answer.{acceptOf};
 ghost use Rattle.export.specs.RunNumbered.{RunGiven, RunAnswered};
+ghost use Rattle.sheet_records.specs.Judged.{edgesOf};
+ghost use Rattle.export.specs.WriteNumbered.{WriteGiven, WriteAnswered};
 ghost use Rattle.export.specs.SheetNumbered.{SheetGiven};
 ghost use Rattle.export.specs.MinNumbered.{MinGiven, MinAnswered, InnerAnswered};
 use level_queue::Answer;
 use level_queue::MinAnswer;
 use run::RunAnswer;
 use sheet::Acceptance;
+use sheet_writer::Written;
 
 // The number that an answer goes out by.
 fn number(a: Answer) -> u64
@@ -183,4 +186,35 @@ pub extern "C" fn lq_distances(
 {
     let a = run::distances(sheet, distances, image);
     give_run(a, reached)
+}
+
+// ---- the writer
+
+// 0 with the length written, or the refusal, with nothing written.
+fn give_length(a: Written, length: &mut u64) -> u64
+    ensures { λ r. ⌜ WriteGiven r a (now (length .entry)) (now (length .exit)) ⌝ }
+{
+    match a {
+        Written::Wrote(k) => {
+            *length = k;
+            0
+        }
+        Written::Refused(k) => k,
+    }
+}
+
+#[no_mangle]
+pub extern "C" fn lq_write(
+    target: &mut [u8],
+    n: u64,
+    source: u64,
+    ones: &[u64],
+    others: &[u64],
+    weights: &[u64],
+    length: &mut u64,
+) -> u64
+    ensures { λ r. ⌜ WriteAnswered r n source (edgesOf (now (ones .entry)) (now (others .entry)) (now (weights .entry))) (now (target .entry)) (now (target .exit)) (now (length .entry)) (now (length .exit)) ⌝ }
+{
+    let a = sheet_writer::write_slices(target, n, source, ones, others, weights);
+    give_length(a, length)
 }

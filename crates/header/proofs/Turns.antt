@@ -1,4 +1,4 @@
--- The turns of the two loops: one more row read into a column, one more row stored.
+-- The turns of the two loops: one more row read, one more row stored.
 -- Assumes nothing.
 use Prim.Native.Nat.{ℕ, zero, suc, _+_, _-_, _*_, _<_}
 use mathlib.Core.Path.{_≡_, refl, _∙_}
@@ -11,7 +11,8 @@ use Rattle.lists.specs.Put.{put-append}
 use Rattle.plain.specs.Lists.{pad}
 use Rattle.layout.specs.Image.{HEAD, ROW}
 use Rattle.layout.proofs.Image.{zeros}
-use Rattle.header.specs.Record.{ROWS, listed, wordAt, columnOf, rowsOf, atLevel}
+use Rattle.header.specs.declared.Header.{Header}
+use Rattle.header.specs.Record.{ROWS, listed, wordAt, columnOf, headerUpto, withRow, rowsOf, atLevel}
 
 pub length-listed : (f : ℕ → ℕ) (n : ℕ) → length (listed f n) ≡ n
 length-listed f zero = refl
@@ -31,6 +32,16 @@ pub column-turn : (ws b : List ℕ) (column i : ℕ) → i < ROWS → b ≡ colu
 column-turn ws b column i h q =
     let l : length (listed (wordAt ws column) i) ≡ i = length-listed (wordAt ws column) i in
     rw (q, add-one i, ← pad-turn ROWS (listed (wordAt ws column) i) (wordAt ws column i) (omega arith), l)
+
+pub header-turn : (ws : List ℕ) (h : Header) (i : ℕ) → i < ROWS → h ≡ headerUpto ws i
+    → withRow h i (wordAt ws 0 i) (wordAt ws 1 i) (wordAt ws 2 i) ≡ headerUpto ws (i + 1)
+header-turn ws h i l q =
+    rw (
+      q,
+      column-turn ws (columnOf ws 0 i) 0 i l refl,
+      column-turn ws (columnOf ws 1 i) 1 i l refl,
+      column-turn ws (columnOf ws 2 i) 2 i l refl,
+    ) refl
 
 pub row-turn : (ws b e u img : List ℕ) (i : ℕ) → img ≡ sets ws HEAD (rowsOf (atLevel b) (atLevel e) (atLevel u) i)
     → sets img (HEAD + ROW * i) (getD b i 0 ∷ getD e i 0 ∷ getD u i 0 ∷ []) ≡ sets ws HEAD (rowsOf (atLevel b) (atLevel e) (atLevel u) (i + 1))

@@ -32,20 +32,22 @@ wordAt ws column i = getD ws (HEAD + ROW * i + column) 0
 abbrev pub columnOf : List ℕ → ℕ → ℕ → List ℕ
 columnOf ws column L = pad ROWS (listed (wordAt ws column) L)
 
+-- with the rows of the levels 0 to i-1
+abbrev pub headerUpto : List ℕ → ℕ → Header
+headerUpto ws i = record {
+  n = getD ws 0 0;
+  levels = getD ws 1 0;
+  waiting = getD ws 2 0;
+  «elements_at» = getD ws 3 0;
+  «stack_at» = getD ws 4 0;
+  «work_at» = getD ws 5 0;
+  bounds = columnOf ws 0 i;
+  «element_counts» = columnOf ws 1 i;
+  «update_counts» = columnOf ws 2 i;
+}
+
 unfoldable pub headerOf : List ℕ → Header
-headerOf ws =
-    let L = getD ws 1 0 in
-    record {
-      n = getD ws 0 0;
-      levels = L;
-      waiting = getD ws 2 0;
-      «elements_at» = getD ws 3 0;
-      «stack_at» = getD ws 4 0;
-      «work_at» = getD ws 5 0;
-      bounds = columnOf ws 0 L;
-      «element_counts» = columnOf ws 1 L;
-      «update_counts» = columnOf ws 2 L;
-    }
+headerOf ws = headerUpto ws (getD ws 1 0)
 
 -- the rows of L levels, from what each column has of each level
 abbrev pub rowsOf : (ℕ → ℕ) → (ℕ → ℕ) → (ℕ → ℕ) → ℕ → List ℕ

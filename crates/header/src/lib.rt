@@ -6,7 +6,7 @@ ghost use Prim.Native.Nat.{_+_, _*_, _<_, _≤_};
 ghost use lib.ListN.{length, getD};
 ghost use lib.Seq.{sets};
 ghost use Rattle.layout.specs.Image.{HEAD, ROW};
-ghost use Rattle.header.specs.Record.{ROWS, columnOf, headerOf, wordsOf, withRow};
+ghost use Rattle.header.specs.Record.{ROWS, headerOf, wordsOf, withRow};
 
 // "The header is held as one record with its level rows (at most seventeen)": three flat arrays beside n, L and the offsets. Each field is a
 // word of the image.
@@ -27,40 +27,31 @@ impl Header {
     pub const ROWS: usize = 17;
 }
 
-// One column of the level rows: 0 the bounds, 1 the element counts, 2 the update counts.
-pub fn column_of(img: &[u64], column: usize, levels: usize) -> [u64; Header::ROWS]
-    requires { ⌜ (column < ROW) × (levels ≤ ROWS) × (HEAD + ROW * levels ≤ length (now img)) ⌝ }
-    ensures { λ r. ⌜ r ≡ columnOf (now (img .entry)) column levels ⌝ }
-{
-    let mut rows = [0u64; Header::ROWS];
-    let mut i = 0;
-    while i < levels {
-        rows[i] = img[places::HEAD + places::ROW * i + column];
-        i += 1;
-    }
-    rows
-}
-
 // The header of any words that have the rows they say.
 pub fn load(img: &[u64]) -> Header
     requires { ⌜ (HEAD ≤ length (now img)) × (getD (now img) 1 0 ≤ ROWS) × (HEAD + ROW * getD (now img) 1 0 ≤ length (now img)) ⌝ }
     ensures { λ r. ⌜ r ≡ headerOf (now (img .entry)) ⌝ }
 {
-    let levels = img[1] as usize;
-    let bounds = column_of(img, 0, levels);
-    let element_counts = column_of(img, 1, levels);
-    let update_counts = column_of(img, 2, levels);
-    Header {
-        n: img[0],
-        levels: img[1],
-        waiting: img[2],
-        elements_at: img[3],
-        stack_at: img[4],
-        work_at: img[5],
-        bounds,
-        element_counts,
-        update_counts,
+    let levels = img[places::LEVELS_AT] as usize;
+    let mut h = Header {
+        n: img[places::N_AT],
+        levels: img[places::LEVELS_AT],
+        waiting: img[places::WAITING_AT],
+        elements_at: img[places::ELEMENTS_AT],
+        stack_at: img[places::STACK_AT],
+        work_at: img[places::WORK_AT],
+        bounds: [0u64; Header::ROWS],
+        element_counts: [0u64; Header::ROWS],
+        update_counts: [0u64; Header::ROWS],
+    };
+    let mut i = 0;
+    while i < levels {
+        h.bounds[i] = img[places::HEAD + places::ROW * i + places::BOUND];
+        h.element_counts[i] = img[places::HEAD + places::ROW * i + places::ELEMENTS];
+        h.update_counts[i] = img[places::HEAD + places::ROW * i + places::UPDATES];
+        i += 1;
     }
+    h
 }
 
 // The three words of one level's row.

@@ -1,13 +1,15 @@
 -- The laws of an id's place: how a search closes in on it, how the elements split there, and both in a work area.
---   place-above, place-from, place-upto     an element below the id, up to it, from it on: where the place is
+--   place-above, place-upto                 an element below the id, from it on: where the place is
 --   put-found, put-gap, put-here            the elements with one put anew: they split at the place
 --   area-..                                 the same of the words from `area` on, as the code reads them
+--   search-turn                             a turn of the search
 -- Assumes nothing.
-use Prim.Native.Nat.{ℕ, zero, suc, _+_, _<_, _≤_}
+use Prim.Native.Nat.{ℕ, zero, suc, _+_, _-_, _*_, _/_, _%_, _<_, _≤_}
 use mathlib.Core.Bool.{Bool, true, false}
 use mathlib.Core.Path.{_≡_, refl, sym, ap, _∙_}
 use mathlib.Core.Logic.{_≢_}
 use mathlib.Core.List.{List, [], _∷_, _++_}
+use native.Mathlib.Nat.{mul-one, mul-zero}
 use native.Mathlib.Numerals.{add-one}
 use native.Mathlib.Omega.{arith}
 use borrow.Author.Tests.{ltb-true, ltb-false, eqb-true, eqb-false, lt-ltb, le-ltb, ne-eqb}
@@ -17,14 +19,14 @@ use lib.Seq.{take-at, drop-at, getD-at, drop-drop}
 use Rattle.plain.specs.Lists.{keep, sift}
 use Rattle.lists.specs.Put.{part, length-part}
 use Rattle.lists.specs.Part.{getD-part}
-use Rattle.rules.specs.Pair.{idOf}
+use Rattle.rules.specs.Pair.{IDS, idOf}
 use Rattle.rules.specs.Update.{Held, absent, held}
 use Rattle.rules.specs.Sound.{Asc}
 use Rattle.rules.specs.Step.{find, cells, put}
 use Rattle.rules.proofs.Level.{asc-find, asc-floor, find-id}
 use Rattle.rules.proofs.Sort.{every-at}
 use Rattle.rules.proofs.Refill.{found}
-use Rattle.level.specs.Place.{place}
+use Rattle.level.specs.Place.{place, StepsOver}
 
 asc-at : (f : ℕ) (E : List ℕ) (j : ℕ) → Asc f E → j < length E → f ≤ idOf (getD E j 0)
 asc-at f E j a h = every-at (λ p. f ≤ idOf p) E j h (asc-floor f f E (omega arith) a)
@@ -68,12 +70,6 @@ module _ (y : ℕ) where
   place-above f (p ∷ E) zero a h l = omega (arith, place-suc p E l)
   place-above f (p ∷ E) (suc j) a h l =
       omega (arith, place-suc p E (omega (arith, asc-at (suc (idOf p)) E j (a .1) (omega arith))), place-above (suc (idOf p)) E j (a .1) (omega arith) l)
-
-  place-from : (f : ℕ) (E : List ℕ) (j : ℕ) → Asc f E → j < length E → idOf (getD E j 0) ≤ y → j ≤ place y E
-  place-from f [] j a h l = absurd (omega arith)
-  place-from f (p ∷ E) zero a h l = omega arith
-  place-from f (p ∷ E) (suc j) a h l =
-      omega (arith, place-suc p E (omega (arith, asc-at (suc (idOf p)) E j (a .1) (omega arith))), place-from (suc (idOf p)) E j (a .1) (omega arith) l)
 
   place-upto : (f : ℕ) (E : List ℕ) (j : ℕ) → Asc f E → j < length E → y ≤ idOf (getD E j 0) → place y E ≤ j
   place-upto f [] j a h l = absurd (omega arith)
@@ -173,9 +169,6 @@ module _ (xs : List ℕ) (area m y : ℕ) (fits : area + m ≤ length xs) (a : A
     pub area-upto : y ≤ idOf (getD xs (area + j) 0) → place y E ≤ j
     area-upto l = place-upto y 0 E j a (omega (arith, size)) (rw word l)
 
-    pub area-hit : idOf (getD xs (area + j) 0) ≡ y → place y E ≡ j
-    area-hit e = omega (arith, area-upto (omega arith), place-from y 0 E j a (omega (arith, size)) (rw word (omega arith)))
-
     pub area-found : idOf (getD xs (area + j) 0) ≡ y → find y E ≡ held (getD xs (area + j) 0)
     area-found e = rw (word, e) at (every-at (λ p. find (idOf p) E ≡ held p) E j (omega (arith, size)) (found 0 E a))
 
@@ -195,3 +188,52 @@ module _ (xs : List ℕ) (area m y : ℕ) (fits : area + m ≤ length xs) (a : A
           let s : getD xs (area + j) 0 ≡ q = sym (word j h) ∙ rw e (here-stands y E a q f) in
           let i : idOf q ≡ y = rw f at (find-id y E) in
           absurd (n (rw s i))
+
+-- ---- a turn of the search: the place is no less than `low` and at most `left` more
+module _ (xs : List ℕ) (area m y : ℕ) (fits : area + m ≤ length xs) (a : Asc 0 (part xs area m)) where
+  pub search-turn : (low left half r : ℕ) → 0 < left → half ≡ left / 2 + left % 2 → low + left ≤ m → low ≤ place y (part xs area m) → place y (part xs area m) ≤ low + left
+      → StepsOver r (idOf (getD xs (area + low + half - 1) 0)) y half
+      → (low + r + left / 2 ≤ m) × (low + r ≤ place y (part xs area m)) × (place y (part xs area m) ≤ low + r + left / 2)
+  search-turn low left half r some h within above upto s = go (ltb (idOf (getD xs at 0)) y) refl
+    where
+      at : ℕ
+      at = area + (low + half - 1)
+
+      same : area + low + half - 1 ≡ at
+      same = omega arith
+
+      go : (b : Bool) → ltb (idOf (getD xs at 0)) y ≡ b
+          → (low + r + left / 2 ≤ m) × (low + r ≤ place y (part xs area m)) × (place y (part xs area m) ≤ low + r + left / 2)
+      go true e =
+          let l = ltb-true (idOf (getD xs at 0)) y e in
+          let q : r ≡ half = s .below (rw same l) in
+          let p = area-above xs area m y fits a (low + half - 1) (omega arith) l in
+          (omega arith, omega (arith, p), omega arith)
+      go false e =
+          let l = ltb-false (idOf (getD xs at 0)) y e in
+          let q : r ≡ 0 = s .from (rw same l) in
+          let p = area-upto xs area m y fits a (low + half - 1) (omega arith) l in
+          (omega arith, omega arith, omega (arith, p))
+
+-- ---- `half` where x is below y, by numbers
+
+module _ (x y half one : ℕ) (low : x < IDS) (high : y < IDS) (e : one ≡ (IDS - 1 + y - x) / IDS) where
+  step-below : x < y → half * one ≡ half
+  step-below h =
+      let q : one ≡ 1 = omega arith in
+      rw (q, mul-one half) refl
+
+  step-from : y ≤ x → half * one ≡ 0
+  step-from h =
+      let q : one ≡ 0 = omega arith in
+      rw (q, mul-zero half) refl
+
+  pub steps-over : StepsOver (half * one) x y half
+  steps-over = record { below = step-below; from = step-from }
+
+  pub steps-most : half * one ≤ half
+  steps-most = go (ltb x y) refl
+    where
+      go : (b : Bool) → ltb x y ≡ b → half * one ≤ half
+      go true q = omega (arith, step-below (ltb-true x y q))
+      go false q = omega (arith, step-from (ltb-false x y q))

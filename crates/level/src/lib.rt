@@ -1,15 +1,15 @@
 // One level takes its updates, in order, in place. The level's elements stand in a work area, its updates below it; what it passes on is written
 // over the updates from their first word on, since one update passes on at most one word.
 ghost use mathlib.Core.Path.{_≡_};
-ghost use Prim.Native.Nat.{_+_, _%_, _≤_, min};
+ghost use Prim.Native.Nat.{_+_, _%_, _<_, _≤_, min};
 ghost use lib.ListN.{length};
 ghost use Rattle.lists.specs.Put.{part};
-ghost use Rattle.rules.specs.Pair.{OPEN};
+ghost use Rattle.rules.specs.Pair.{IDS, OPEN};
 ghost use Rattle.rules.specs.Update.{decrease, delete, sink};
 ghost use Rattle.rules.specs.Sound.{Asc};
 ghost use Rattle.rules.specs.Step.{find};
 ghost use Rattle.layout.specs.Words.{unword};
-ghost use Rattle.level.specs.Place.{place, pairOrOpen};
+ghost use Rattle.level.specs.Place.{place, StepsOver, pairOrOpen};
 ghost use Rattle.level.specs.Step.{Ready, Took};
 ghost use Rattle.level.specs.Run.{Desk, TookAll};
 use pair::Pair;
@@ -22,31 +22,37 @@ pub struct Counts {
     pub ended: usize,
 }
 
-// The place of the id y among the m elements from `area` on: how many stand before it.
-pub fn find_place(img: &[u64], area: usize, m: usize, y: u64) -> usize
-    requires { ⌜ (area + m ≤ length (now img)) × Asc 0 (part (now img) area m) ⌝ }
+// `half` where x is below y, and else 0: by numbers alone, so that a search has no branch to foresee.
+fn step_over(x: u64, y: u64, half: usize) -> usize
+    requires { ⌜ (x < IDS) × (y < IDS) ⌝ }
+    ensures { λ r. ⌜ StepsOver r x y half ⌝ }
+{
+    let one = (Pair::IDS - 1 + y - x) / Pair::IDS;
+    half * one as usize
+}
+
+// The place of the id y among the m elements from `area` on: how many stand before it. It is no less than `low` and at most `left` more, and
+// what is left halves from turn to turn.
+fn find_place(img: &[u64], area: usize, m: usize, y: u64) -> usize
+    requires { ⌜ (y < IDS) × (area + m ≤ length (now img)) × Asc 0 (part (now img) area m) ⌝ }
     ensures { λ r. ⌜ r ≡ place y (part (now (img .entry)) area m) ⌝ }
 {
     let mut low = 0;
-    let mut high = m;
-    'search: while low < high {
-        let mid = low + (high - low) / 2;
-        let x = Pair::id(img[area + mid]);
-        if x == y {
-            low = mid;
+    let mut left = m;
+    'search: loop {
+        if left == 0 {
             break 'search;
         }
-        if x < y {
-            low = mid + 1;
-        } else {
-            high = mid;
-        }
+        let half = left / 2 + left % 2;
+        let x = Pair::id(img[area + low + half - 1]);
+        low += step_over(x, y, half);
+        left /= 2;
     }
     low
 }
 
 // The element of the id y, whose place is k, or the open bound where there is none.
-pub fn pair_at(img: &[u64], area: usize, m: usize, k: usize, y: u64) -> u64
+fn pair_at(img: &[u64], area: usize, m: usize, k: usize, y: u64) -> u64
     requires { ⌜ (area + m ≤ length (now img)) × Asc 0 (part (now img) area m) × (k ≡ place y (part (now img) area m)) ⌝ }
     ensures { λ r. ⌜ r ≡ pairOrOpen (find y (part (now (img .entry)) area m)) ⌝ }
 {
@@ -61,14 +67,14 @@ pub fn pair_at(img: &[u64], area: usize, m: usize, k: usize, y: u64) -> u64
 }
 
 // The smaller of two pairs: that of the smaller cost, and of equal costs that of the smaller id.
-pub fn lesser(a: u64, b: u64) -> u64
+fn lesser(a: u64, b: u64) -> u64
     ensures { λ r. ⌜ r ≡ min a b ⌝ }
 {
     if a < b { a } else { b }
 }
 
 // "Delete: drop the id here if present; pass the Delete" on. It goes on as it came, whatever its key.
-pub fn take_delete(img: &mut [u64], area: usize, m: usize, to: usize, p: u64) -> Counts
+fn take_delete(img: &mut [u64], area: usize, m: usize, to: usize, p: u64) -> Counts
     requires { ⌜ Ready (now img) area m to p ⌝ }
     ensures { λ r. ⌜ Took r (now (img .entry)) (now (img .exit)) area m to 0 (delete p) ⌝ }
 {
@@ -95,14 +101,7 @@ pub fn take_delete(img: &mut [u64], area: usize, m: usize, to: usize, p: u64) ->
 
 // "Decrease: if the id is here, keep the smaller cost and end it. If not here and the pair is at most the bound, enter it and pass on a Delete of
 // that id. Else pass the Decrease on."
-pub fn take_decrease(
-    img: &mut [u64],
-    area: usize,
-    m: usize,
-    to: usize,
-    p: u64,
-    bound: u64,
-) -> Counts
+fn take_decrease(img: &mut [u64], area: usize, m: usize, to: usize, p: u64, bound: u64) -> Counts
     requires { ⌜ Ready (now img) area m to p ⌝ }
     ensures { λ r. ⌜ Took r (now (img .entry)) (now (img .exit)) area m to bound (decrease p) ⌝ }
 {
@@ -136,7 +135,7 @@ pub fn take_decrease(
 }
 
 // "Sink: if at most the bound, enter it; else pass it on."
-pub fn take_sink(img: &mut [u64], area: usize, m: usize, to: usize, p: u64, bound: u64) -> Counts
+fn take_sink(img: &mut [u64], area: usize, m: usize, to: usize, p: u64, bound: u64) -> Counts
     requires { ⌜ Ready (now img) area m to p ⌝ }
     ensures { λ r. ⌜ Took r (now (img .entry)) (now (img .exit)) area m to bound (sink p) ⌝ }
 {
@@ -169,7 +168,7 @@ pub fn take_sink(img: &mut [u64], area: usize, m: usize, to: usize, p: u64, boun
 }
 
 // One update word w: "kind 1 Decrease, 2 Delete (key 0), 3 Sink".
-pub fn take_one(img: &mut [u64], area: usize, m: usize, to: usize, w: u64, bound: u64) -> Counts
+fn take_one(img: &mut [u64], area: usize, m: usize, to: usize, w: u64, bound: u64) -> Counts
     requires { ⌜ Ready (now img) area m to (w % OPEN) ⌝ }
     ensures { λ r. ⌜ Took r (now (img .entry)) (now (img .exit)) area m to bound (unword w) ⌝ }
 {

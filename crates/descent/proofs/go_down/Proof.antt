@@ -19,16 +19,16 @@ use Rattle.descent.proofs.go_down.Statement.{statement}
 use Rattle.descent.proofs.go_down.Tie as tie
 
 abbrev Inv-loop : tie.InvT-loop
-Inv-loop img₀ end n levels first work b e u at₀ held₀ passed₀ ended₀ width₀ floor₀ i₀ img at held passed ended width floor i =
+Inv-loop img₀ end h n levels first work at₀ held₀ passed₀ ended₀ width₀ floor₀ i₀ img at held passed ended width floor i =
     (i ≤ levels) × (levels ≤ ROWS) × (length img ≡ length img₀) × (held ≡ 0) × (first ≡ length (topOf img₀)) × (work ≡ workPlace (length (topOf img₀)) levels n)
-    × (waiting (heapOf img₀) ≤ IDS) × Going n levels (topOf img₀) (laterOf img₀) b e u (heapOf img₀) i at passed ended width floor img
+    × (waiting (heapOf img₀) ≤ IDS) × Going n levels (topOf img₀) (laterOf img₀) (h .bounds) (h .«element_counts») (h .«update_counts») (heapOf img₀) i at passed ended width floor img
 
 abbrev μ-loop : tie.MeasureT-loop
-μ-loop img₀ end n levels first work b e u at₀ held₀ passed₀ ended₀ width₀ floor₀ i₀ img at held passed ended width floor i = levels - i
+μ-loop img₀ end h n levels first work at₀ held₀ passed₀ ended₀ width₀ floor₀ i₀ img at held passed ended width floor i = levels - i
 
 loop-holds : tie.Need-loop-holds Inv-loop μ-loop
 loop-holds c =
-    let s = c .before .before .before .before in
+    let s = c .before in
     let xs = s .args .img .now in
     let k = s .pre .0 in
     let d = s .pre .1 in
@@ -40,68 +40,62 @@ loop-holds c =
       omega (arith, t, d .elements-from),
       rw (d .levels-is, d .n-is, t) (d .work-from),
       waits-few xs k,
-      rw (d .levels-is, d .n-is) (going-starts xs k (s .args .h) d (s .args .end) (rw t (s .pre .2))),
+      rw (d .levels-is, d .n-is) (going-starts xs k (s .args .t2) d (s .args .end) (rw t (s .pre .2))),
     )
 
 -- the level that the turn is at
-here : (c : tie.Else1 Inv-loop μ-loop) → (let a = c .before .before .before .before .before .before .args in let l = c .before .loop in
-    Facing (a .h .n) (a .h .levels) (topOf (a .img .now)) (laterOf (a .img .now)) (a .h .bounds) (a .h .«element_counts») (a .h .«update_counts») (heapOf (a .img .now))
+here : (c : tie.Else1 Inv-loop μ-loop) → (let a = c .before .before .before .args in let l = c .before .loop in
+    Facing (a .t2 .n) (a .t2 .levels) (topOf (a .img .now)) (laterOf (a .img .now)) (a .t2 .bounds) (a .t2 .«element_counts») (a .t2 .«update_counts») (heapOf (a .img .now))
     (l .i) (l .at) (l .passed) (l .ended) (l .width) (l .floor) (l .img))
 here c = faces (c .before .loop .inv .7) (omega arith)
 
 mul-m : tie.Need-mul-m Inv-loop μ-loop
 mul-m c = search needs
 
-array-read-m : tie.Need-array-read-m Inv-loop μ-loop
-array-read-m c = search needs
+element-copy-out-m : tie.Need-element-copy-out-m Inv-loop μ-loop
+element-copy-out-m c = search needs
 
 mul-own : tie.Need-mul-own Inv-loop μ-loop
 mul-own c = search needs
 
-array-read-own : tie.Need-array-read-own Inv-loop μ-loop
-array-read-own c = search needs
+element-copy-out-own : tie.Need-element-copy-out-own Inv-loop μ-loop
+element-copy-out-own c = search needs
 
 sub-at : tie.Need-sub-at Inv-loop μ-loop
-sub-at c = asks (here c) (c .before .loop .inv .4) (c .before .loop .inv .5) .1
+sub-at c = asks (here (c .before .before)) (c .before .before .before .loop .inv .4) (c .before .before .before .loop .inv .5) .1
 
-sub-visit : tie.Need-sub-visit Inv-loop μ-loop
-sub-visit c = asks (here (c .before)) (c .before .before .loop .inv .4) (c .before .before .loop .inv .5) .4
+mul-bound : tie.Need-mul-bound Inv-loop μ-loop
+mul-bound c = search needs
 
-add-visit : tie.Need-add-visit Inv-loop μ-loop
-add-visit c = omega (arith, asks (here (c .before)) (c .before .before .loop .inv .4) (c .before .before .loop .inv .5) .0)
+element-copy-out-bound : tie.Need-element-copy-out-bound Inv-loop μ-loop
+element-copy-out-bound c = search needs
 
-add-visit-2 : tie.Need-add-visit-2 Inv-loop μ-loop
-add-visit-2 c = omega (arith, asks (here (c .before)) (c .before .before .loop .inv .4) (c .before .before .loop .inv .5) .2)
+sub-from : tie.Need-sub-from Inv-loop μ-loop
+sub-from c = asks (here (c .before .before .before)) (c .before .before .before .before .loop .inv .4) (c .before .before .before .before .loop .inv .5) .4
 
-mul-visit : tie.Need-mul-visit Inv-loop μ-loop
-mul-visit c = search needs
+add-from : tie.Need-add-from Inv-loop μ-loop
+add-from c = omega (arith, asks (here (c .before .before .before)) (c .before .before .before .before .loop .inv .4) (c .before .before .before .before .loop .inv .5) .0)
 
-array-read-visit : tie.Need-array-read-visit Inv-loop μ-loop
-array-read-visit c = search needs
+add-count : tie.Need-add-count Inv-loop μ-loop
+add-count c = omega (arith, asks (here (c .before .before .before)) (c .before .before .before .before .loop .inv .4) (c .before .before .before .before .loop .inv .5) .2)
 
 visit-requires : tie.Need-visit-requires Inv-loop μ-loop
-visit-requires c κs = visitable (here (c .before)) (c .before .before .loop .inv .4) (c .before .before .loop .inv .5)
+visit-requires c κs = visitable (here (c .before .before .before .before)) (c .before .before .before .before .before .loop .inv .4) (c .before .before .before .before .before .loop .inv .5)
 
 add-ended : tie.Need-add-ended Inv-loop μ-loop
 add-ended c =
-    let d = c .before .before .before .before .before in
+    let d = c .before .before .before .before .before .before .before .before in
     let v = d .before .loop .inv in
     omega (arith, x-is (here d) (v .4) (v .5) (c .before .before .before .visit .ensures), v .6)
 
-mul-floor : tie.Need-mul-floor Inv-loop μ-loop
-mul-floor c = search needs
-
-array-read-floor : tie.Need-array-read-floor Inv-loop μ-loop
-array-read-floor c = search needs
-
 add-floor : tie.Need-add-floor Inv-loop μ-loop
 add-floor c =
-    let d = c .before .before .before .before .before .before in
+    let d = c .before .before .before .before .before .before .before .before .before in
     omega (arith, asks (here d) (d .before .loop .inv .4) (d .before .loop .inv .5) .5)
 
 mul-width : tie.Need-mul-width Inv-loop μ-loop
 mul-width c =
-    let d = c .before .before .before .before .before .before in
+    let d = c .before .before .before .before .before .before .before .before .before in
     omega (arith, asks (here d) (d .before .loop .inv .4) (d .before .loop .inv .5) .3)
 
 add-i : tie.Need-add-i Inv-loop μ-loop
@@ -112,7 +106,7 @@ loop-less c = search needs
 
 loop-again : tie.Need-loop-again Inv-loop μ-loop
 loop-again c =
-    let d = c .before .before .before .before .before .before in
+    let d = c .before .before .before .before .before .before .before .before .before in
     let v = d .before .loop .inv in
     let k = c .before .before .before .before .visit .ensures in
     (omega arith, v .1, search needs, omega arith, v .4, v .5, v .6, goes-on (here d) (v .4) (v .5) k (omega arith))
@@ -123,7 +117,7 @@ same-length c = search needs
 returns : tie.Need-returns Inv-loop μ-loop
 returns c =
     let l = c .before .loop in
-    let s = c .before .before .before .before .before .before in
+    let s = c .before .before .before in
     let d = s .pre .1 in
     rw (l .inv .3) (rw (d .levels-is, d .n-is) at (going-through (l .inv .7) (omega arith) (l .i)))
 
@@ -132,9 +126,9 @@ same-length-2 c = search needs
 
 returns-2 : tie.Need-returns-2 Inv-loop μ-loop
 returns-2 c =
-    let d = c .before .before .before .before .before .before in
+    let d = c .before .before .before .before .before .before .before .before .before in
     let v = d .before .loop .inv in
-    let h = d .before .before .before .before .before .before .pre .1 in
+    let h = d .before .before .before .pre .1 in
     let k = c .before .before .before .before .visit .ensures in
     rw (h .levels-is, h .n-is) at (stops (here d) (v .4) (v .5) k (omega arith))
 
@@ -146,19 +140,17 @@ go-down-spec =
     μ-loop
     loop-holds
     mul-m
-    array-read-m
+    element-copy-out-m
     mul-own
-    array-read-own
+    element-copy-out-own
     sub-at
-    sub-visit
-    add-visit
-    add-visit-2
-    mul-visit
-    array-read-visit
+    mul-bound
+    element-copy-out-bound
+    sub-from
+    add-from
+    add-count
     visit-requires
     add-ended
-    mul-floor
-    array-read-floor
     add-floor
     mul-width
     add-i

@@ -1,0 +1,2 @@
+-- Sheet: the sheet that words in order make. Assumes nothing.
+pub mod Sheet

@@ -9,10 +9,10 @@ use lib.ListN.{length, replicate, length-append, length-replicate}
 use lib.Seq.{sets}
 use Rattle.lists.specs.Put.{part}
 use Rattle.rules.specs.Update.{Update}
-use Rattle.rules.specs.Heap.{Level}
+use Rattle.rules.specs.Heap.{Level, waiting}
 use Rattle.layout.specs.Words.{words}
 use Rattle.plain.specs.Lists.{pad}
-use Rattle.layout.specs.Image.{elementWords, stack, stackWords}
+use Rattle.layout.specs.Image.{headWords, rowWords, elementWords, stack, stackWords, layOut}
 use Rattle.rules.specs.Rebuild.{addBehind}
 use Rattle.at_work.specs.AtWork.{atWork, Roomy, levelPlace, stackPlace, workPlace}
 use Rattle.lists.specs.Blocks.{part-at, put-at, zeros-append}
@@ -235,3 +235,11 @@ added-on n top rest ks l ls us k =
     same : (i : ℕ) (hs : List Level) → elementWords i (hs ++ addBehind us (l ∷ ls)) ≡ elementWords i (hs ++ (l ∷ ls))
     same i [] = refl
     same i (h ∷ hs) = ap (λ (z : List ℕ). pad (2 ^ i) (h .elements) ++ z) (same (suc i) hs)
+
+-- ---- AN IMAGE is at work with all its levels on, nothing passed on and a clear work area
+pub lay-out-at-work : (n : ℕ) (ls : List Level) (more : List ℕ) → layOut n ls ++ more ≡ atWork n (headWords n (waiting ls) ++ rowWords ls) more 0 ls [] []
+unfolding layOut atWork
+lay-out-at-work n ls more =
+    let e : n - 0 ≡ n = omega arith in
+    let s : stack ls ++ [] ≡ stack ls = append-nil (stack ls) in
+    rw (e, s) (simp append-assoc)

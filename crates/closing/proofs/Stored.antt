@@ -1,30 +1,22 @@
 -- A header stored before levels that are at work makes their image.
---   lay-out-at-work   an image is at work with all its levels on, nothing passed on and a clear work area
 --   Numbers           a header's numbers and offsets are those of an image
 --   stored            the image
 -- Assumes nothing.
-use Prim.Native.Nat.{ℕ, _-_}
+use Prim.Native.Nat.{ℕ}
 use mathlib.Core.Path.{_≡_, refl, sym, ap, _∙_}
-use mathlib.Core.List.{List, [], _++_, append-assoc, append-nil}
+use mathlib.Core.List.{List, [], _++_}
 use native.Mathlib.Omega.{arith}
 use lib.ListN.{length, length-append}
 use lib.Seq.{sets}
 use Rattle.rules.specs.Pair.{levels}
 use Rattle.rules.specs.Heap.{Level, waiting}
-use Rattle.layout.specs.Image.{elementsFrom, stackFrom, workFrom, headWords, rowWords, stack, layOut}
+use Rattle.layout.specs.Image.{elementsFrom, stackFrom, workFrom, headWords, rowWords, layOut}
 use Rattle.layout.proofs.Image.{length-rows}
 use Rattle.header.specs.declared.Header.{Header}
 use Rattle.header.specs.Record.{wordsOf}
 use Rattle.at_work.specs.AtWork.{atWork}
-use Rattle.at_work.proofs.Places.{top-store}
+use Rattle.at_work.proofs.Places.{top-store, lay-out-at-work}
 use Rattle.closing.proofs.Columns.{Says, rows-words}
-
-pub lay-out-at-work : (n : ℕ) (ls : List Level) (more : List ℕ) → layOut n ls ++ more ≡ atWork n (headWords n (waiting ls) ++ rowWords ls) more 0 ls [] []
-unfolding layOut atWork
-lay-out-at-work n ls more =
-    let e : n - 0 ≡ n = omega arith in
-    let s : stack ls ++ [] ≡ stack ls = append-nil (stack ls) in
-    rw (e, s) (simp append-assoc)
 
 pub record Numbers (g : Header) (n w : ℕ) : Type 0 where
   pub n-is : g .n ≡ n

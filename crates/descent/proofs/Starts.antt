@@ -1,21 +1,22 @@
 -- A sound image, with the record that describes its heap, is where the way down starts.
 -- Assumes nothing.
-use Prim.Native.Nat.{ℕ, suc, _+_, _-_, _<_, _≤_}
+use Prim.Native.Nat.{ℕ, suc, _+_, _<_, _≤_}
 use mathlib.Core.Path.{_≡_, refl, _∙_}
-use mathlib.Core.List.{List, [], _∷_, _++_, append-assoc, append-nil}
+use mathlib.Core.List.{List, [], _∷_}
 use native.Mathlib.Omega.{arith}
 use lib.ListN.{length, getD, length-append}
 use Rattle.rules.specs.Pair.{IDS, levels}
 use Rattle.rules.specs.Heap.{Level, boundAt, elementsAt, updatesAt, waiting}
 use Rattle.rules.specs.Firm.{Firm}
 use Rattle.rules.proofs.Soundness.{sound-firm}
-use Rattle.layout.specs.Image.{elementsFrom, headWords, rowWords, stack, layOut}
+use Rattle.layout.specs.Image.{elementsFrom, headWords, rowWords, stack}
 use Rattle.layout.specs.SoundImage.{nOf, heapOf, SoundImage}
 use Rattle.layout.proofs.Image.{length-rows, stack-fits}
 use Rattle.layout.proofs.Back.{image-words}
 use Rattle.header.specs.declared.Header.{Header}
 use Rattle.header.specs.Record.{Describes}
 use Rattle.at_work.specs.AtWork.{atWork, stackPlace}
+use Rattle.at_work.proofs.Places.{lay-out-at-work}
 use Rattle.descent.specs.Landed.{topOf, laterOf, Rows}
 use Rattle.descent.proofs.Going.{Going}
 
@@ -37,14 +38,6 @@ rows-from h n ls size d =
 
 -- ---- THE WORDS
 
--- a heap laid out, with the header's words apart
-pub lay-out-working : (n : ℕ) (ls : List Level) (more : List ℕ) → layOut n ls ++ more ≡ atWork n (headWords n (waiting ls) ++ rowWords ls) more 0 ls [] []
-unfolding layOut atWork
-lay-out-working n ls more =
-    let e : n - 0 ≡ n = omega arith in
-    let s : stack ls ++ [] ≡ stack ls = append-nil (stack ls) in
-    rw (e, s) (simp append-assoc)
-
 module _ (xs : List ℕ) (k : SoundImage xs) where
   abbrev n : ℕ
   n = nOf xs
@@ -60,7 +53,7 @@ module _ (xs : List ℕ) (k : SoundImage xs) where
 
   starts-working : xs ≡ atWork n (topOf xs) (laterOf xs) 0 ls [] []
   unfolding topOf laterOf
-  starts-working = image-words xs k ∙ lay-out-working n ls (laterOf xs)
+  starts-working = image-words xs k ∙ lay-out-at-work n ls (laterOf xs)
 
   pub top-length : length (topOf xs) ≡ elementsFrom L
   unfolding topOf

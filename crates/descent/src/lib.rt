@@ -52,7 +52,7 @@ fn visit(
         }
     }
     split::lift(img, from, work, m);
-    level::take_updates(img, work, m, n, at, count, bound)
+    level_table::take_updates(img, work, m, n, at, count, bound)
 }
 
 // "From level 0 down, each level takes its updates in order, then stops at the first level that still holds an element." `end` is where the

@@ -2,8 +2,9 @@
 -- Assumes nothing.
 use Prim.Native.Nat.{ℕ, suc, _+_, _<_, _≤_}
 use mathlib.Core.Bool.{Bool, true, false}
-use mathlib.Core.Path.{_≡_, refl, _∙_}
+use mathlib.Core.Path.{_≡_, refl, ap, _∙_}
 use mathlib.Core.List.{List}
+use native.Mathlib.Numerals.{add-one}
 use native.Mathlib.Omega.{arith}
 use borrow.Author.Tests.{ltb-true, ltb-false}
 use lib.Dec.{ltb}
@@ -11,7 +12,7 @@ use lib.ListN.{length, getD, set, length-set}
 use lib.Seq.{getD-set-same, getD-set-other}
 use Rattle.header.specs.declared.Header.{Header}
 use Rattle.header.specs.Record.{ROWS}
-use Rattle.rows_after.specs.Rows.{Refreshed}
+use Rattle.rows_after.specs.Rows.{Framed, Refreshed}
 
 -- x is x₀ with f's words in the first j places
 pub record Upto (f : ℕ → ℕ) (j : ℕ) (x₀ x : List ℕ) : Type 0 where
@@ -35,26 +36,61 @@ upto-turn f j v x₀ x g h e = record {
         let z : i ≡ j = omega (arith, ltb-false i j q) in
         rw z (getD-set-same x j v 0 (omega (arith, g .long)) ∙ e)
 
--- THE ROWS BELOW k, once both arrays are filled that far
-pub refreshed : (h : Header) (p counts b u : List ℕ) (k waiting : ℕ) → Upto (λ i. getD p (suc i) 0) k (h .bounds) b → Upto (λ i. 0) k (h .«update_counts») u
-    → Refreshed h (record {
+-- THE ROWS BELOW j are filled: g is g₀ but for them
+pub record Filling (g₀ g : Header) (p : List ℕ) (j : ℕ) : Type 0 where
+  pub frame : Framed g₀ g (g₀ .waiting)
+  pub counts-are : g .«element_counts» ≡ g₀ .«element_counts»
+  pub bounds : Upto (λ i. getD p (suc i) 0) j (g₀ .bounds) (g .bounds)
+  pub updates : Upto (λ i. 0) j (g₀ .«update_counts») (g .«update_counts»)
+
+pub filling-starts : (g : Header) (p : List ℕ) → length (g .bounds) ≡ ROWS → length (g .«update_counts») ≡ ROWS → Filling g g p 0
+filling-starts g p b u = record {
+  frame = record { ids = refl; size = refl; waits = refl; elements = refl; stack = refl; work = refl };
+  counts-are = refl;
+  bounds = upto-starts _ (g .bounds) b;
+  updates = upto-starts _ (g .«update_counts») u;
+}
+
+pub filling-turn : (g₀ g : Header) (p : List ℕ) (j : ℕ) → Filling g₀ g p j → j < ROWS
+    → Filling g₀ (record {
+      n = g .n;
+      levels = g .levels;
+      waiting = g .waiting;
+      «elements_at» = g .«elements_at»;
+      «stack_at» = g .«stack_at»;
+      «work_at» = g .«work_at»;
+      bounds = set (g .bounds) j (getD p (j + 1) 0);
+      «element_counts» = g .«element_counts»;
+      «update_counts» = set (g .«update_counts») j 0;
+    }) p (j + 1)
+filling-turn g₀ g p j f h = record {
+  frame = record { ids = f .frame .ids; size = f .frame .size; waits = f .frame .waits; elements = f .frame .elements; stack = f .frame .stack; work = f .frame .work };
+  counts-are = f .counts-are;
+  bounds = upto-turn (λ i. getD p (suc i) 0) j (getD p (j + 1) 0) (g₀ .bounds) (g .bounds) (f .bounds) h (ap (λ (z : ℕ). getD p z 0) (add-one j));
+  updates = upto-turn (λ i. 0) j 0 (g₀ .«update_counts») (g .«update_counts») (f .updates) h refl;
+}
+
+-- all of them
+pub refreshed : (h g : Header) (p counts : List ℕ) (k waiting : ℕ)
+    → Filling (record {
       n = h .n;
       levels = h .levels;
       waiting = waiting;
       «elements_at» = h .«elements_at»;
       «stack_at» = h .«stack_at»;
       «work_at» = h .«work_at»;
-      bounds = b;
+      bounds = h .bounds;
       «element_counts» = counts;
-      «update_counts» = u;
-    }) p counts k waiting
-refreshed h p counts b u k waiting B U = record {
-  frame = record { ids = refl; size = refl; waits = refl; elements = refl; stack = refl; work = refl };
-  bounds-long = B .long;
-  updates-long = U .long;
-  counts-are = refl;
-  bounds = B .low;
-  bounds-on = B .high;
-  updates = U .low;
-  updates-on = U .high;
+      «update_counts» = h .«update_counts»;
+    }) g p k
+    → Refreshed h g p counts k waiting
+refreshed h g p counts k waiting f = record {
+  frame = record { ids = f .frame .ids; size = f .frame .size; waits = f .frame .waits; elements = f .frame .elements; stack = f .frame .stack; work = f .frame .work };
+  bounds-long = f .bounds .long;
+  updates-long = f .updates .long;
+  counts-are = f .counts-are;
+  bounds = f .bounds .low;
+  bounds-on = f .bounds .high;
+  updates = f .updates .low;
+  updates-on = f .updates .high;
 }

@@ -17,25 +17,16 @@ fn rows_below(
     requires { ⌜ (k < ROWS) × (length (h .bounds) ≡ ROWS) × (length (h .«update_counts») ≡ ROWS) ⌝ }
     ensures { λ g. ⌜ Refreshed h g p counts k waiting ⌝ }
 {
-    let mut b = h.bounds;
-    let mut u = h.update_counts;
+    let mut g = h;
+    g.waiting = waiting;
+    g.element_counts = counts;
     let mut j = 0;
     while j < k {
-        b[j] = p[j + 1];
-        u[j] = 0;
+        g.bounds[j] = p[j + 1];
+        g.update_counts[j] = 0;
         j += 1;
     }
-    Header {
-        n: h.n,
-        levels: h.levels,
-        waiting,
-        elements_at: h.elements_at,
-        stack_at: h.stack_at,
-        work_at: h.work_at,
-        bounds: b,
-        element_counts: counts,
-        update_counts: u,
-    }
+    g
 }
 
 // "level k is left empty", with the bound v; level k+1, if there is one, has `added` updates more.

@@ -1,0 +1,3 @@
+-- Commands: what a line asks. Answers: what is printed. Assumes nothing.
+pub mod Commands
+pub mod Answers

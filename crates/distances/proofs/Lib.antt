@@ -1,0 +1,2 @@
+-- Rows: the vertices' lines one after the other, and the report of a run. Assumes nothing.
+pub mod Rows

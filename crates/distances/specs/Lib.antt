@@ -1,0 +1,2 @@
+-- Report: what the program prints of a run. Assumes nothing.
+pub mod Report

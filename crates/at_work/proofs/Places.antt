@@ -1,11 +1,11 @@
 -- What reads and stores at their places see and do while Delete-Min works.
 -- Assumes nothing.
-use Prim.Native.Nat.{ℕ, suc, _+_, _-_, _^_, _≤_}
+use Prim.Native.Nat.{ℕ, suc, _+_, _-_, _^_, _<_, _≤_}
 use mathlib.Core.Path.{_≡_, refl, sym, ap, _∙_}
 use mathlib.Core.List.{List, [], _∷_, _++_, append-assoc, append-nil}
 use native.Mathlib.Omega.{arith}
 use native.Mathlib.Nat.{pow-suc}
-use lib.ListN.{length, replicate, length-append, length-replicate}
+use lib.ListN.{length, getD, replicate, length-append, length-replicate, List·getD-append}
 use lib.Seq.{sets}
 use Rattle.lists.specs.Put.{part}
 use Rattle.rules.specs.Update.{Update}
@@ -217,10 +217,18 @@ module _ (n L : ℕ) (top rest : List ℕ) where
 
 -- ---- THE HEADER'S WORDS, and levels that have no updates
 
-pub top-store : (n : ℕ) (top new rest : List ℕ) (ls : List Level) → length new ≡ length top
-    → sets (atWork n top rest 0 ls [] []) 0 new ≡ atWork n new rest 0 ls [] []
+pub top-store : (n : ℕ) (old new kept rest : List ℕ) (ls : List Level) → length new ≡ length old
+    → sets (atWork n (old ++ kept) rest 0 ls [] []) 0 new ≡ atWork n (new ++ kept) rest 0 ls [] []
 unfolding atWork
-top-store n top new rest ls e = put-at [] top new (replicate (2 ^ 0 - 1) 0 ++ (elementWords 0 ls ++ (pad (stackWords n) (stack ls ++ []) ++ (pad n [] ++ rest)))) 0 refl (sym e)
+top-store n old new kept rest ls e =
+    let behind = replicate (2 ^ 0 - 1) 0 ++ (elementWords 0 ls ++ (pad (stackWords n) (stack ls ++ []) ++ (pad n [] ++ rest))) in
+    rw (append-assoc old kept behind, append-assoc new kept behind) (put-at [] old new (kept ++ behind) 0 refl (sym e))
+
+-- a word of the header
+pub top-word : (n : ℕ) (top rest : List ℕ) (i : ℕ) (ls : List Level) (ps : List Update) (E : List ℕ) (j : ℕ) → j < length top
+    → getD (atWork n top rest i ls ps E) j 0 ≡ getD top j 0
+unfolding atWork
+top-word n top rest i ls ps E j h = List·getD-append top _ 0 j h
 
 -- updates added to the level behind ks, which have none, are what stands behind the stack
 pub added-on : (n : ℕ) (top rest : List ℕ) (ks : List Level) (l : Level) (ls : List Level) (us : List Update) → ((D : List Level) → stack (ks ++ D) ≡ stack D)

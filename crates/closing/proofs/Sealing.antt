@@ -1,17 +1,17 @@
 -- What `seal`'s calls ask and leave: what was passed past the last level is cleared, and the new header describes the levels after the stop.
---   level-asks, clear-asks, added-small, waiting-asks, rows-asks, store-asks   what the calls require
+--   level-asks, words-inside, added-small, waiting-asks, clear-asks, load-asks, rows-asks   what the calls require
 --   cleared   the words before the header is stored          waits-are   word 2          sealed   the image
 -- Assumes nothing.
 use Prim.Native.Nat.{ℕ, suc, _+_, _-_, _*_, _^_, _<_, _≤_}
-use mathlib.Core.Bool.{Bool, true, false, cond}
-use mathlib.Core.Path.{_≡_, refl, sym, ap, _∙_}
-use mathlib.Core.List.{List, [], _∷_, _++_}
+use mathlib.Core.Path.{_≡_, refl, sym, ap, _∙_, subst}
+use mathlib.Core.List.{List, [], _∷_, _++_, append-assoc}
 use native.Mathlib.Omega.{arith}
 use native.Mathlib.Nat.{pow-suc}
 use borrow.Author.Tests.{le-leb, lt-leb}
-use lib.Dec.{leb, ltb}
+use lib.Dec.{ltb}
 use lib.ListN.{length, getD, replicate, length-append}
-use lib.Seq.{sets}
+use lib.Seq.{sets, length-sets}
+use Rattle.rules.specs.Pair.{levels}
 use Rattle.rules.specs.Update.{Update}
 use Rattle.rules.specs.Heap.{stores, Level, waiting}
 use Rattle.rules.specs.Firm.{Chain, Ends, Firm}
@@ -26,21 +26,24 @@ use Rattle.layout.specs.Words.{words}
 use Rattle.layout.specs.Image.{HEAD, ROW, elementsFrom, stack, stackWords, layOut}
 use Rattle.layout.proofs.Image.{length-words}
 use Rattle.header.specs.declared.Header.{Header}
-use Rattle.header.specs.Record.{ROWS, wordsOf}
+use Rattle.header.specs.Record.{ROWS, wordAt, columnOf, headerUpto, wordsUpto}
+use Rattle.header.proofs.Columns.{column-length, column-at}
 use Rattle.at_work.specs.AtWork.{atWork, Roomy, stackPlace, workPlace}
 use Rattle.at_work.proofs.Blocks.{roomy}
-use Rattle.at_work.proofs.Places.{working-length, passed-store, added-on}
+use Rattle.at_work.proofs.Places.{working-length, passed-store, added-on, top-word}
 use Rattle.at_work.proofs.Waits.{waits-last, waits-on}
 use Rattle.descent.specs.declared.Halt.{Halt}
+use Rattle.descent.specs.Landed.{Rows}
 use Rattle.rows_after.specs.Rows.{RowsAfter, MoreFits}
 use Rattle.refill.specs.declared.Refilled.{Refilled}
 use Rattle.refill.specs.Site.{Site, OnSite}
-use Rattle.closing.specs.Seal.{leftOver, stillWaiting, Filled}
-use Rattle.closing.proofs.Columns.{Says, rows-append, rows-same, rows-spread}
+use Rattle.closing.specs.Seal.{onwardOf, Filled}
+use Rattle.closing.specs.declared.Onward.{Onward}
+use Rattle.closing.proofs.Columns.{Says, rows-append, rows-spread}
 use Rattle.closing.proofs.Stored.{Numbers, stored}
 use Rattle.closing.proofs.Levels.{stack-refill, refill-length, none-over, sinks-le, roomy-unadd}
 
-module _ {d : Site} {xs : List ℕ} {h : Header} {r : Halt} {q : Refilled} (f : Filled d xs h r q) where
+module _ {d : Site} {xs : List ℕ} {r : Halt} {q : Refilled} (f : Filled d xs r q) where
   abbrev n : ℕ
   n = d .ids
 
@@ -66,10 +69,7 @@ module _ {d : Site} {xs : List ℕ} {h : Header} {r : Halt} {q : Refilled} (f : 
   abbrev R : List Level
   R = refillCuts b E k
 
-  abbrev left : ℕ
-  left = leftOver (h .levels) (r .level) (r .passed)
-
-  o : OnSite d (f .before) h r
+  o : OnSite d (f .before) r
   o = f .site
 
   at-level : r .level ≡ k
@@ -101,47 +101,56 @@ module _ {d : Site} {xs : List ℕ} {h : Header} {r : Halt} {q : Refilled} (f : 
   xs-length : length xs ≡ workPlace (length (d .top)) L n + n + length (d .rest)
   xs-length = ap length (f .refills .words) ∙ working-length n L (d .top) (d .rest) 0 (R ++ s .deeper) all-levels all-roomy us [] all-room (omega arith)
 
-  -- level k is the last, or not
-  is-last : s .deeper ≡ [] → leb (h .levels) (r .level + 1) ≡ true
-  is-last z = le-leb (h .levels) (r .level + 1) (omega (arith, f .size, o .size, at-level, ap length z))
+  -- the words of the header that the code reads first
+  word-is : (j : ℕ) → j < length (d .top) → getD xs j 0 ≡ getD (d .top) j 0
+  word-is j l = ap (λ (z : List ℕ). getD z j 0) (f .refills .words) ∙ top-word n (d .top) (d .rest) 0 (R ++ s .deeper) us [] j l
 
-  is-inner : (l : Level) (ls : List Level) → s .deeper ≡ l ∷ ls → leb (h .levels) (r .level + 1) ≡ false
-  is-inner l ls z = lt-leb (h .levels) (r .level + 1) (omega (arith, f .size, o .size, at-level, ap length z))
+  levels-are : getD xs 1 0 ≡ L
+  levels-are = word-is 1 (omega (arith, o .head)) ∙ f .size
 
-  -- ---- what the code asks
-  left-le : left ≤ r .passed
-  left-le = go (leb (h .levels) (r .level + 1))
-    where
-      go : (t : Bool) → cond t (r .passed) 0 ≤ r .passed
-      go true = omega arith
-      go false = omega arith
+  waiting-are : getD xs 2 0 ≡ d .waits
+  waiting-are = word-is 2 (omega (arith, o .head)) ∙ f .waits
 
+  -- ---- what the code asks first
   pub level-asks : r .level < ROWS
   level-asks = omega (arith, at-level, o .size, o .small)
 
-  pub clear-asks : r .at + left ≤ length xs
-  clear-asks = omega (arith, left-le, o .landed .at, o .landed .passed, o .spare, xs-length)
+  pub words-inside : 2 < length xs
+  words-inside = omega (arith, xs-length, o .head)
 
   pub added-small : r .passed + q .sunk < 2 ^ 63
   added-small = omega (arith, added-is, all-room, f .in-range .1)
 
-  pub waiting-asks : r .ended ≤ h .waiting
-  waiting-asks = omega (arith, o .landed .ended, f .waits)
+  pub waiting-asks : r .ended ≤ getD xs 2 0
+  waiting-asks = omega (arith, o .landed .ended, waiting-are)
 
-  more-fits : MoreFits h (r .level) (r .passed + q .sunk)
-  more-fits l = go (s .deeper) refl
+  -- ---- what comes behind the stop
+  abbrev on : Onward
+  on = onwardOf (getD xs 1 0) (r .level) (r .passed) (r .passed + q .sunk) (getD xs 2 0) (r .ended)
+
+  on-last : s .deeper ≡ [] → on ≡ record { next = k; dropped = r .passed; added = 0; waiting = 0 }
+  on-last z = rw (le-leb (getD xs 1 0) (r .level + 1) (omega (arith, levels-are, o .size, at-level, ap length z)), at-level) refl
+
+  on-inner : (l : Level) (ls : List Level) → s .deeper ≡ l ∷ ls → on ≡ record { next = k + 1; dropped = 0; added = length us; waiting = d .waits - r .ended }
+  on-inner l ls z = rw (lt-leb (getD xs 1 0) (r .level + 1) (omega (arith, levels-are, o .size, at-level, ap length z)), at-level, added-is, waiting-are) refl
+
+  -- level k's row and the next's are rows of levels
+  pub next-is : (k ≤ on .next) × (on .next ≤ suc k) × (on .next < L)
+  next-is = go (s .deeper) refl
     where
-      go : (ls : List Level) → s .deeper ≡ ls → getD (h .«update_counts») (suc (r .level)) 0 + (r .passed + q .sunk) < 2 ^ 63
-      go [] z = absurd (omega (arith, l, f .size, o .size, at-level, ap length z))
-      go (x ∷ ls) z =
-          let y : Says h (suc k) (x ∷ ls) = rw z at (o .landed .rows) in
-          let e : getD (h .«update_counts») (suc (r .level)) 0 ≡ length (x .updates) = ap (λ (i : ℕ). getD (h .«update_counts») (suc i) 0) at-level ∙ y .2 in
-          let t : length (stack (s .deeper)) ≡ length (stack ls) + length (x .updates) = rw z (length-append (stack ls) (words (x .updates)) ∙ omega (arith, length-words (x .updates))) in
-          omega (arith, e, t, added-is, o .spare, added-few, f .in-range .1)
+      go : (ls : List Level) → s .deeper ≡ ls → (k ≤ on .next) × (on .next ≤ suc k) × (on .next < L)
+      go [] z = rw (on-last z) (omega arith, omega arith, omega (arith, o .size))
+      go (l ∷ ls) z = rw (on-inner l ls z) (omega arith, omega arith, omega (arith, o .size, ap length z))
 
-  pub rows-asks : (r .level < h .levels) × (h .levels ≤ ROWS) × MoreFits h (r .level) (r .passed + q .sunk)
-      × (length (h .bounds) ≡ ROWS) × (length (h .«update_counts») ≡ ROWS) × (length (q .counts) ≡ ROWS)
-  rows-asks = (omega (arith, at-level, o .size, f .size), omega (arith, f .size, o .small), more-fits, f .bounds-long, f .updates-long, f .refills .long)
+  dropped-le : on .dropped ≤ r .passed
+  dropped-le = go (s .deeper) refl
+    where
+      go : (ls : List Level) → s .deeper ≡ ls → on .dropped ≤ r .passed
+      go [] z = rw (on-last z) (omega arith)
+      go (l ∷ ls) z = rw (on-inner l ls z) (omega arith)
+
+  pub clear-asks : r .at + on .dropped ≤ length xs
+  clear-asks = omega (arith, dropped-le, o .landed .at, o .landed .passed, o .spare, xs-length)
 
   -- ---- what is left over is cleared: at the last level nothing sinks, and all that was passed on goes
   sinks-none : s .deeper ≡ [] → restCuts s ≡ []
@@ -150,79 +159,137 @@ module _ {d : Site} {xs : List ℕ} {h : Header} {r : Halt} {q : Refilled} (f : 
       let e : cut b (2 ^ k) E ≡ b = cut-last b (2 ^ k) E (omega (arith, o .few, c .1, pow-suc 2 k)) in
       rw e (ap stores (none-over b E (o .within)))
 
-  cleared : sets xs (r .at) (replicate left 0) ≡ atWork n (d .top) (d .rest) 0 (rebuiltCuts s) [] []
+  abbrev ws : List ℕ
+  ws = sets xs (r .at) (replicate (on .dropped) 0)
+
+  cleared : ws ≡ atWork n (d .top) (d .rest) 0 (rebuiltCuts s) [] []
   cleared = go (s .deeper) refl
     where
-      go : (ls : List Level) → s .deeper ≡ ls → sets xs (r .at) (replicate left 0) ≡ atWork n (d .top) (d .rest) 0 (rebuiltCuts s) [] []
+      go : (ls : List Level) → s .deeper ≡ ls → ws ≡ atWork n (d .top) (d .rest) 0 (rebuiltCuts s) [] []
       go [] z =
           let W = atWork n (d .top) (d .rest) 0 (R ++ s .deeper) us [] in
           let at = stackPlace (length (d .top)) L + length (stack (R ++ s .deeper)) in
-          let e₁ : left ≡ length us - 0 = rw (is-last z) (omega (arith, o .landed .passed, length-append (s .passed) (restCuts s), ap length (sinks-none z))) in
+          let e₁ : on .dropped ≡ length us - 0 = rw (on-last z) (omega (arith, o .landed .passed, length-append (s .passed) (restCuts s), ap length (sinks-none z))) in
           let e₂ : r .at ≡ at = o .landed .at ∙ ap (λ (x : List ℕ). stackPlace (length (d .top)) L + length x) (sym (stack-refill b E k (s .deeper))) in
-          ap (λ (y : List ℕ). sets y (r .at) (replicate left 0)) (f .refills .words)
-          ∙ ap (λ (y : ℕ). sets W y (replicate left 0)) e₂
+          ap (λ (y : List ℕ). sets y (r .at) (replicate (on .dropped) 0)) (f .refills .words)
+          ∙ ap (λ (y : ℕ). sets W y (replicate (on .dropped) 0)) e₂
           ∙ ap (λ (y : ℕ). sets W at (replicate y 0)) e₁
           ∙ passed-store n L (d .top) (d .rest) 0 (R ++ s .deeper) all-levels all-roomy us [] all-room (omega arith) [] (omega arith)
           ∙ ap (λ (y : List Level). atWork n (d .top) (d .rest) 0 (R ++ y) [] []) (z ∙ sym (ap (addBehind us) z))
       go (l ∷ ls) z =
-          let e : left ≡ 0 = rw (is-inner l ls z) refl in
+          let e : on .dropped ≡ 0 = rw (on-inner l ls z) refl in
           ap (λ (y : ℕ). sets xs (r .at) (replicate y 0)) e
           ∙ f .refills .words
           ∙ ap (λ (y : List Level). atWork n (d .top) (d .rest) 0 (R ++ y) us []) z
           ∙ added-on n (d .top) (d .rest) R l ls us (λ D. stack-refill b E k D)
           ∙ ap (λ (y : List Level). atWork n (d .top) (d .rest) 0 (R ++ addBehind us y) [] []) (sym z)
 
-  -- ---- word 2
-  abbrev waits-now : ℕ
-  waits-now = stillWaiting (h .levels) (r .level) (h .waiting) (r .ended)
+  -- ---- the header that is loaded
+  abbrev h : Header
+  h = headerUpto ws (on .next + 1)
 
-  waits-are : waits-now ≡ waiting (rebuiltCuts s)
+  kept-word : (j : ℕ) → j < length (d .top) → getD ws j 0 ≡ getD (d .top) j 0
+  kept-word j l = ap (λ (z : List ℕ). getD z j 0) cleared ∙ top-word n (d .top) (d .rest) 0 (rebuiltCuts s) [] [] j l
+
+  pub load-asks : (on .next + 1 ≤ ROWS) × (HEAD + ROW * (on .next + 1) ≤ length ws)
+  load-asks = (omega (arith, next-is .2, o .small), simp length-sets (omega (arith, next-is .2, o .head, xs-length)))
+
+  column-is : (c j : ℕ) → c < ROW → j ≤ on .next → getD (columnOf ws c (on .next + 1)) j 0 ≡ wordAt (d .top) c j
+  column-is c j x y = column-at ws c (on .next + 1) j (omega arith) ∙ kept-word (HEAD + ROW * j + c) (omega (arith, next-is .2, o .head))
+
+  next-fits : k < on .next → getD (h .«update_counts») (on .next) 0 + on .added < 2 ^ 63
+  next-fits l = go (s .deeper) refl
+    where
+      go : (ls : List Level) → s .deeper ≡ ls → getD (h .«update_counts») (on .next) 0 + on .added < 2 ^ 63
+      go [] z = absurd (omega (arith, l, ap (λ (y : Onward). y .next) (on-last z)))
+      go (x ∷ ls) z =
+          let y : Rows (d .top) (suc k) (x ∷ ls) = rw z at (o .landed .rows) in
+          let p : on .next ≡ suc k = rw (on-inner x ls z) (omega arith) in
+          let e : getD (h .«update_counts») (on .next) 0 ≡ length (x .updates) = column-is 2 (on .next) (omega arith) (omega arith) ∙ ap (wordAt (d .top) 2) p ∙ y .2 in
+          let a : on .added ≡ length us = rw (on-inner x ls z) refl in
+          let t : length (stack (s .deeper)) ≡ length (stack ls) + length (x .updates) = rw z (length-append (stack ls) (words (x .updates)) ∙ omega (arith, length-words (x .updates))) in
+          omega (arith, e, a, t, o .spare, added-few, f .in-range .1)
+
+  added-fits : on .added < 2 ^ 63
+  added-fits = go (s .deeper) refl
+    where
+      go : (ls : List Level) → s .deeper ≡ ls → on .added < 2 ^ 63
+      go [] z = rw (on-last z) (omega arith)
+      go (l ∷ ls) z = rw (on-inner l ls z) (omega (arith, added-is, added-small))
+
+  pub rows-asks : (r .level ≤ on .next) × (on .next ≤ suc (r .level)) × (on .next < ROWS) × MoreFits h (r .level) (on .next) (on .added)
+      × (length (h .bounds) ≡ ROWS) × (length (h .«element_counts») ≡ ROWS) × (length (h .«update_counts») ≡ ROWS)
+  rows-asks =
+      let few = load-asks .0 in
+      (omega (arith, at-level, next-is .0), omega (arith, at-level, next-is .1), omega arith, (added-fits, λ l. next-fits (omega (arith, at-level, l))), column-length ws 0 (on .next + 1) few, column-length ws 1 (on .next + 1) few, column-length ws 2 (on .next + 1) few)
+
+  -- ---- word 2
+  waits-are : on .waiting ≡ waiting (rebuiltCuts s)
   waits-are = go (s .deeper) refl
     where
-      go : (ls : List Level) → s .deeper ≡ ls → waits-now ≡ waiting (rebuiltCuts s)
-      go [] z = rw (is-last z) (sym (waits-last s z))
-      go (l ∷ ls) z = rw (is-inner l ls z) (omega (arith, waits-on s (omega (arith, ap length z)), o .landed .ended, f .waits))
+      go : (ls : List Level) → s .deeper ≡ ls → on .waiting ≡ waiting (rebuiltCuts s)
+      go [] z = rw (on-last z) (sym (waits-last s z))
+      go (l ∷ ls) z = rw (on-inner l ls z) (omega (arith, waits-on s (omega (arith, ap length z)), o .landed .ended))
 
   -- ---- the header is stored
-  module _ {g : Header} (a : RowsAfter h g (q .cuts) (q .counts) (r .level) (q .bound) (r .passed + q .sunk) waits-now) where
-    a′ : RowsAfter h g (q .cuts) (q .counts) k (q .bound) (length us) (waiting (rebuiltCuts s))
-    a′ = rw (waits-are, at-level, added-is) at a
+  module _ {g : Header} (a : RowsAfter h g (q .cuts) (q .counts) (r .level) (q .bound) (on .next) (on .added) (on .waiting)) where
+    a′ : RowsAfter h g (q .cuts) (q .counts) k (q .bound) (on .next) (on .added) (waiting (rebuiltCuts s))
+    a′ =
+        subst (λ (y : ℕ). RowsAfter h g (q .cuts) (q .counts) y (q .bound) (on .next) (on .added) (waiting (rebuiltCuts s))) at-level
+        (subst (λ (y : ℕ). RowsAfter h g (q .cuts) (q .counts) (r .level) (q .bound) (on .next) (on .added) y) waits-are a)
 
-    deeper-rows : (ls : List Level) → s .deeper ≡ ls → Says g (suc k) (addBehind us ls)
-    deeper-rows [] z = tt
-    deeper-rows (l ∷ ls) z =
-        let x : Says h (suc k) (l ∷ ls) = rw z at (o .landed .rows) in (
-          a′ .bounds-on (suc k) (omega arith) ∙ x .0,
-          a′ .counts-on (suc k) (omega arith) ∙ f .refills .others (suc k) (omega arith) ∙ x .1,
-          a′ .update (omega (arith, f .size, o .size, ap length z)) ∙ omega (arith, x .2, length-append (l .updates) us),
-          rows-same h g (suc (suc k)) ls (λ j y. a′ .bounds-on j (omega arith)) (λ j y. a′ .counts-on j (omega arith) ∙ f .refills .others j (omega arith)) (λ j y. a′ .updates-on j (omega arith)) (x .3),
-        )
-
-    rows : Says g 0 (rebuiltCuts s)
-    rows =
+    -- the rows 0 to k, where level k's updates are none
+    rows : getD (g .«update_counts») k 0 ≡ 0 → Says g 0 R
+    rows none =
         let S = spread doubles b E (suc (smallest E)) 0 k in
         let K : List Level = record { bound = cut b (2 ^ k) E; elements = []; updates = [] } ∷ [] in
         let below : Says g 0 S =
-        rows-spread g b E k 0 k (omega arith) (λ i l. a′ .bounds i l ∙ f .refills .ladder .at (suc i) l) (λ i l. a′ .counts-to i l ∙ f .refills .count i l) (λ i l. a′ .updates i (omega arith)) in
-        let own : Says g k K = (a′ .bound ∙ f .refills .bound, a′ .count, a′ .updates k (omega arith), tt) in
-        let upto : Says g 0 R = rows-append g 0 k S K (omega (arith, spread-length doubles b E k (suc (smallest E)) 0)) below own in
-        rows-append g 0 (suc k) R (addBehind us (s .deeper)) (omega (arith, refill-length b E k)) upto (deeper-rows (s .deeper) refl)
+        rows-spread g b E k 0 k (omega arith) (λ i l. a′ .bounds i l ∙ f .refills .ladder .at (suc i) l) (λ i l. a′ .counts-to i l ∙ f .refills .count i l) (λ i l. a′ .updates i l) in
+        let own : Says g k K = (a′ .bound ∙ f .refills .bound, a′ .count, none, tt) in
+        rows-append g 0 k S K (omega (arith, spread-length doubles b E k (suc (smallest E)) 0)) below own
 
     numbers : Numbers g n (waiting (rebuiltCuts s))
     numbers = record {
-      n-is = a′ .frame .ids ∙ f .ids;
-      levels-is = a′ .frame .size ∙ f .size ∙ f .levels-is;
+      n-is = a′ .frame .ids ∙ kept-word 0 (omega (arith, o .head)) ∙ f .ids;
+      levels-is = a′ .frame .size ∙ kept-word 1 (omega (arith, o .head)) ∙ f .size ∙ f .levels-is;
       waiting-is = a′ .frame .waits;
-      elements-from = a′ .frame .elements ∙ o .first ∙ f .top-length ∙ ap elementsFrom (f .levels-is);
-      stack-from = a′ .frame .stack ∙ f .stack-at ∙ rw (f .top-length, f .levels-is) refl;
-      work-from = a′ .frame .work ∙ o .work ∙ rw (f .top-length, f .levels-is) refl;
+      elements-from = a′ .frame .elements ∙ kept-word 3 (omega (arith, o .head)) ∙ o .first ∙ o .head ∙ ap elementsFrom (f .levels-is);
+      stack-from = a′ .frame .stack ∙ kept-word 4 (omega (arith, o .head)) ∙ f .stack-at ∙ rw (o .head, f .levels-is) refl;
+      work-from = a′ .frame .work ∙ kept-word 5 (omega (arith, o .head)) ∙ o .work ∙ rw (o .head, f .levels-is) refl;
     }
 
-    pub store-asks : (g .levels ≤ ROWS) × (HEAD + ROW * g .levels ≤ length xs)
-    store-asks = (omega (arith, a .frame .size, f .size, o .small), omega (arith, a .frame .size, f .size, f .top-length, xs-length))
+    head-is : length (d .top) ≡ elementsFrom (levels n)
+    head-is = o .head ∙ ap elementsFrom (f .levels-is)
 
-    pub sealed : sets (sets xs (r .at) (replicate left 0)) 0 (wordsOf g) ≡ layOut n (rebuilt s) ++ d .rest
-    sealed =
-        ap (λ (y : List ℕ). sets y 0 (wordsOf g)) cleared
-        ∙ stored n g (rebuiltCuts s) (firm .size) numbers rows (d .top) (d .rest) (f .top-length ∙ ap elementsFrom (f .levels-is))
-        ∙ ap (λ (ls : List Level). layOut n ls ++ d .rest) (sym rebuilt-is)
+    -- ks are the levels whose rows are stored, ls those behind them
+    by-rows : (ks ls : List Level) → rebuiltCuts s ≡ ks ++ ls → on .next + 1 ≡ length ks → Says g 0 ks → Rows (d .top) (length ks) ls
+        → sets ws 0 (wordsUpto g (on .next + 1)) ≡ layOut n (rebuiltCuts s) ++ d .rest
+    by-rows ks ls e m x y =
+        let both : length ks + length ls ≡ levels n = omega (arith, firm .size, ap length e, length-append ks ls) in
+        let number : Numbers g n (waiting (ks ++ ls)) = rw e at numbers in
+        ap (λ (z : List ℕ). sets z 0 (wordsUpto g (on .next + 1))) (cleared ∙ ap (λ (z : List Level). atWork n (d .top) (d .rest) 0 z [] []) e)
+        ∙ ap (λ (z : ℕ). sets (atWork n (d .top) (d .rest) 0 (ks ++ ls) [] []) 0 (wordsUpto g z)) m
+        ∙ stored n g ks ls both number x (d .top) (d .rest) head-is y
+        ∙ ap (λ (z : List Level). layOut n z ++ d .rest) (sym e)
+
+    by-levels : (ls : List Level) → s .deeper ≡ ls → sets ws 0 (wordsUpto g (on .next + 1)) ≡ layOut n (rebuiltCuts s) ++ d .rest
+    by-levels [] z =
+        let none : getD (g .«update_counts») k 0 ≡ 0 = a′ .last (rw (on-last z) refl) ∙ rw (on-last z) refl in
+        by-rows R [] (ap (λ (y : List Level). R ++ addBehind us y) z) (rw (on-last z) (omega (arith, refill-length b E k))) (rows none) tt
+    by-levels (l ∷ ls) z =
+        let x : Rows (d .top) (suc k) (l ∷ ls) = rw z at (o .landed .rows) in
+        let p : on .next ≡ suc k = rw (on-inner l ls z) (omega arith) in
+        let more : on .added ≡ length us = rw (on-inner l ls z) refl in
+        let next : List Level = record { bound = l .bound; elements = l .elements; updates = l .updates ++ us } ∷ [] in
+        let row : Says g (suc k) next = (
+          a′ .bounds-on (suc k) (omega arith) ∙ column-is 0 (suc k) (omega arith) (omega (arith, p)) ∙ x .0,
+          a′ .counts-on (suc k) (omega arith) ∙ column-is 1 (suc k) (omega arith) (omega (arith, p)) ∙ x .1,
+          ap (λ (j : ℕ). getD (g .«update_counts») j 0) (sym p) ∙ a′ .update (omega (arith, p)) ∙ omega (arith, column-is 2 (on .next) (omega arith) (omega arith), ap (wordAt (d .top) 2) p, x .2, more, length-append (l .updates) us),
+          tt,
+        ) in
+        let size : length (R ++ next) ≡ suc (suc k) = omega (arith, length-append R next, refill-length b E k) in
+        by-rows (R ++ next) ls (ap (λ (y : List Level). R ++ addBehind us y) z ∙ sym (append-assoc R next ls)) (omega (arith, p, size))
+        (rows-append g 0 (suc k) R next (omega (arith, refill-length b E k)) (rows (a′ .none (omega (arith, p)))) row) (rw size (x .3))
+
+    pub sealed : sets ws 0 (wordsUpto g (on .next + 1)) ≡ layOut n (rebuilt s) ++ d .rest
+    sealed = by-levels (s .deeper) refl ∙ ap (λ (ls : List Level). layOut n ls ++ d .rest) (sym rebuilt-is)

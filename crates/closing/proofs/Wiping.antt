@@ -1,12 +1,12 @@
 -- What `wipe`'s calls ask and leave: what is left past the last level is cleared, and the levels are those of a fresh image.
 --   fresh-rows   what a fresh header's columns say        cleared   the words before the header is stored        wiped   the image
 -- Assumes nothing.
-use Prim.Native.Nat.{ℕ, zero, suc, _+_, _-_, _*_, _≤_}
+use Prim.Native.Nat.{ℕ, zero, suc, _+_, _-_, _*_, _<_, _≤_}
 use mathlib.Core.Path.{_≡_, refl, sym, ap, _∙_}
-use mathlib.Core.List.{List, [], _++_}
+use mathlib.Core.List.{List, [], _++_, append-nil}
 use native.Mathlib.Omega.{arith}
-use lib.ListN.{length, replicate, getD-replicate}
-use lib.Seq.{sets}
+use lib.ListN.{length, getD, replicate, getD-replicate}
+use lib.Seq.{sets, length-sets}
 use Rattle.plain.specs.Lists.{tally}
 use Rattle.rules.specs.Pair.{OPEN}
 use Rattle.rules.specs.Update.{waits}
@@ -15,9 +15,9 @@ use Rattle.rules.specs.Queue.{fresh}
 use Rattle.rules.proofs.Queue.{fresh-reading}
 use Rattle.layout.specs.Image.{HEAD, ROW, elementsFrom, stackFrom, workFrom, layOut}
 use Rattle.header.specs.declared.Header.{Header}
-use Rattle.header.specs.Record.{ROWS, wordsOf}
+use Rattle.header.specs.Record.{ROWS, headerUpto, wordsUpto}
 use Rattle.at_work.specs.AtWork.{atWork, stackPlace, workPlace}
-use Rattle.at_work.proofs.Places.{working-length, passed-store, level-fill}
+use Rattle.at_work.proofs.Places.{working-length, passed-store, level-fill, top-word}
 use Rattle.descent.specs.declared.Halt.{Halt}
 use Rattle.descent.specs.Landed.{Through}
 use Rattle.closing.specs.Wipe.{freshHeader, Bare, Spent}
@@ -42,7 +42,7 @@ fresh-rows h i (suc d) l = (
   fresh-rows h (suc i) d (omega arith),
 )
 
-module _ {d : Bare} {xs : List ℕ} {h : Header} {r : Halt} (f : Spent d xs h r) where
+module _ {d : Bare} {xs : List ℕ} {r : Halt} (f : Spent d xs r) where
   abbrev n : ℕ
   n = d .ids
 
@@ -58,9 +58,6 @@ module _ {d : Bare} {xs : List ℕ} {h : Header} {r : Halt} (f : Spent d xs h r)
   pub clear-asks : r .at + r .passed ≤ length xs
   clear-asks = omega (arith, xs-length, t .at, t .passed, t .room)
 
-  pub store-asks : (h .levels ≤ ROWS) × (HEAD + ROW * h .levels ≤ length xs)
-  store-asks = (omega (arith, f .size, f .small), omega (arith, f .size, f .top-length, xs-length))
-
   cleared : sets xs (r .at) (replicate (r .passed) 0) ≡ atWork n (d .top) (d .rest) 0 (fresh L) [] []
   cleared =
       let W = atWork n (d .top) (d .rest) L [] (t .left) [] in
@@ -73,17 +70,39 @@ module _ {d : Bare} {xs : List ℕ} {h : Header} {r : Halt} (f : Spent d xs h r)
       ∙ passed-store n L (d .top) (d .rest) L [] (omega arith) tt (t .left) [] (omega (arith, t .room)) (omega arith) [] (omega arith)
       ∙ fresh-down n (d .top) (d .rest) L 0 L (omega arith)
 
-  numbers : Numbers (freshHeader h) n (waiting (fresh L))
+  -- the words that are read and stored then
+  abbrev ws : List ℕ
+  ws = sets xs (r .at) (replicate (r .passed) 0)
+
+  -- the record of the header's numbers
+  abbrev h : Header
+  h = headerUpto ws 0
+
+  word-is : (j : ℕ) → j < length (d .top) → getD ws j 0 ≡ getD (d .top) j 0
+  word-is j l = ap (λ (z : List ℕ). getD z j 0) cleared ∙ top-word n (d .top) (d .rest) 0 (fresh L) [] [] j l
+
+  levels-are : h .levels ≡ L
+  levels-are = word-is 1 (omega (arith, f .top-length)) ∙ f .size
+
+  pub load-asks : HEAD ≤ length ws
+  load-asks = simp length-sets (omega (arith, f .top-length, xs-length))
+
+  pub store-asks : (h .levels ≤ ROWS) × (HEAD + ROW * h .levels ≤ length ws)
+  store-asks = (omega (arith, levels-are, f .small), simp length-sets (omega (arith, levels-are, f .top-length, xs-length)))
+
+  numbers : Numbers (freshHeader h) n (waiting (fresh L ++ []))
   numbers = record {
-    n-is = f .ids;
-    levels-is = f .size ∙ f .levels-is;
-    waiting-is = sym (ap (tally waits) (fresh-reading L));
-    elements-from = f .elements ∙ ap elementsFrom (f .levels-is);
-    stack-from = f .stack ∙ ap stackFrom (f .levels-is);
-    work-from = f .work ∙ ap (workFrom n) (f .levels-is);
+    n-is = word-is 0 (omega (arith, f .top-length)) ∙ f .ids;
+    levels-is = levels-are ∙ f .levels-is;
+    waiting-is = sym (rw (append-nil (fresh L)) (ap (tally waits) (fresh-reading L)));
+    elements-from = word-is 3 (omega (arith, f .top-length)) ∙ f .elements ∙ ap elementsFrom (f .levels-is);
+    stack-from = word-is 4 (omega (arith, f .top-length)) ∙ f .stack ∙ ap stackFrom (f .levels-is);
+    work-from = word-is 5 (omega (arith, f .top-length)) ∙ f .work ∙ ap (workFrom n) (f .levels-is);
   }
 
-  pub wiped : sets (sets xs (r .at) (replicate (r .passed) 0)) 0 (wordsOf (freshHeader h)) ≡ layOut n (fresh L) ++ d .rest
+  pub wiped : sets ws 0 (wordsUpto (freshHeader h) (h .levels)) ≡ layOut n (fresh L) ++ d .rest
   wiped =
-      ap (λ (y : List ℕ). sets y 0 (wordsOf (freshHeader h))) cleared
-      ∙ stored n (freshHeader h) (fresh L) (fresh-length L ∙ f .levels-is) numbers (fresh-rows h 0 L (omega (arith, f .small))) (d .top) (d .rest) (f .top-length ∙ ap elementsFrom (f .levels-is))
+      let e : h .levels ≡ length (fresh L) = levels-are ∙ sym (fresh-length L) in
+      ap (λ (m : ℕ). sets ws 0 (wordsUpto (freshHeader h) m)) e
+      ∙ ap (λ (z : List ℕ). sets z 0 (wordsUpto (freshHeader h) (length (fresh L)))) cleared
+      ∙ (rw (append-nil (fresh L)) at (stored n (freshHeader h) (fresh L) [] (omega (arith, fresh-length L, f .levels-is)) numbers (fresh-rows h 0 L (omega (arith, f .small))) (d .top) (d .rest) (f .top-length ∙ ap elementsFrom (f .levels-is)) tt))

@@ -3,7 +3,7 @@
 -- Assumes nothing.
 use mathlib.Core.Path.{_≡_}
 use mathlib.Core.List.{List, _++_}
-use lib.ListN.{length, replicate}
+use lib.ListN.{length, getD, replicate}
 use Prim.Native.Nat.{ℕ, _≤_}
 use Rattle.rules.specs.Pair.{OPEN, levels}
 use Rattle.rules.specs.Queue.{fresh}
@@ -32,19 +32,19 @@ pub record Bare : Type 0 where
   pub top : List ℕ
   pub rest : List ℕ
 
-pub record Spent (d : Bare) (xs : List ℕ) (h : Header) (r : Halt) : Type 0 where
+pub record Spent (d : Bare) (xs : List ℕ) (r : Halt) : Type 0 where
   pub through : Through (d .ids) (d .levels) (d .top) (d .rest) r xs
-  pub ids : h .n ≡ d .ids
-  pub size : h .levels ≡ d .levels
-  pub elements : h .«elements_at» ≡ elementsFrom (d .levels)
-  pub stack : h .«stack_at» ≡ stackFrom (d .levels)
-  pub work : h .«work_at» ≡ workFrom (d .ids) (d .levels)
+  pub ids : getD (d .top) 0 0 ≡ d .ids
+  pub size : getD (d .top) 1 0 ≡ d .levels
+  pub elements : getD (d .top) 3 0 ≡ elementsFrom (d .levels)
+  pub stack : getD (d .top) 4 0 ≡ stackFrom (d .levels)
+  pub work : getD (d .top) 5 0 ≡ workFrom (d .ids) (d .levels)
   pub top-length : length (d .top) ≡ elementsFrom (d .levels)
   pub levels-is : d .levels ≡ levels (d .ids)
   pub small : d .levels ≤ ROWS
 
-abbrev pub SomeSpent : List ℕ → Header → Halt → Type 0
-SomeSpent xs h r = (d : Bare) × Spent d xs h r
+abbrev pub SomeSpent : List ℕ → Halt → Type 0
+SomeSpent xs r = (d : Bare) × Spent d xs r
 
-abbrev pub Wipes : List ℕ → List ℕ → Header → Halt → Type 0
-Wipes xs ys h r = (d : Bare) → Spent d xs h r → ys ≡ layOut (d .ids) (fresh (d .levels)) ++ d .rest
+abbrev pub Wipes : List ℕ → List ℕ → Halt → Type 0
+Wipes xs ys r = (d : Bare) → Spent d xs r → ys ≡ layOut (d .ids) (fresh (d .levels)) ++ d .rest

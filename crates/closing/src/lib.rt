@@ -3,50 +3,68 @@
 ghost use mathlib.Core.Path.{_≡_};
 ghost use Prim.Native.Nat.{_<_, _≤_};
 ghost use Rattle.header.specs.Record.{ROWS};
-ghost use Rattle.closing.specs.Seal.{leftOver, stillWaiting, SomeFilled, Seals};
+ghost use Rattle.closing.specs.Seal.{onwardOf, SomeFilled, Seals};
 ghost use Rattle.closing.specs.Wipe.{freshHeader, SomeSpent, Wipes};
 use descent::Halt;
 use header::Header;
 use pair::Pair;
 use refill::Refilled;
 
-// "Past the last level a passed Delete is dropped": how many of the words passed on at level k are dropped.
-fn left_over(levels: usize, k: usize, passed: usize) -> usize
-    requires { ⌜ k < ROWS ⌝ }
-    ensures { λ c. ⌜ c ≡ leftOver levels k passed ⌝ }
-{
-    if levels <= k + 1 {
-        return passed;
-    }
-    0
+// What a stop means for what comes behind it: the level whose row has more updates, how many of the words passed on are dropped, how many updates
+// are added, and word 2.
+struct Onward {
+    next: usize,
+    dropped: usize,
+    added: usize,
+    waiting: u64,
 }
 
-// Word 2 after a stop at level k on whose way so many Decreases and Deletes ended.
-fn still_waiting(levels: usize, k: usize, waiting: u64, ended: usize) -> u64
+// "Past the last level a passed Delete is dropped", and nothing then waits. Otherwise all `added` wait at level k+1.
+fn behind_stop(
+    levels: usize,
+    k: usize,
+    passed: usize,
+    added: usize,
+    waiting: u64,
+    ended: usize,
+) -> Onward
     requires { ⌜ (k < ROWS) × (ended ≤ waiting) ⌝ }
-    ensures { λ c. ⌜ c ≡ stillWaiting levels k waiting ended ⌝ }
+    ensures { λ o. ⌜ o ≡ onwardOf levels k passed added waiting ended ⌝ }
 {
     if levels <= k + 1 {
-        return 0;
+        return Onward {
+            next: k,
+            dropped: passed,
+            added: 0,
+            waiting: 0,
+        };
     }
-    waiting - (ended as u64)
+    Onward {
+        next: k + 1,
+        dropped: 0,
+        added,
+        waiting: waiting - (ended as u64),
+    }
 }
 
-// The levels stand filled again; the header follows.
-pub fn seal(img: &mut [u64], h: Header, r: Halt, q: Refilled)
-    requires { ⌜ SomeFilled (now img) h r q ⌝ }
-    ensures { λ _. ⌜ Seals (now (img .entry)) (now (img .exit)) h r q ⌝ }
+// The levels stand filled again; the header follows. Only the rows of the levels visited, and of the one behind them, are touched.
+pub fn seal(img: &mut [u64], r: Halt, q: Refilled)
+    requires { ⌜ SomeFilled (now img) r q ⌝ }
+    ensures { λ _. ⌜ Seals (now (img .entry)) (now (img .exit)) r q ⌝ }
 {
     let k = r.level;
-    let levels = h.levels as usize;
-    let left = left_over(levels, k, r.passed);
-    words_moved::clear(img, r.at, left);
+    let levels = img[places::LEVELS_AT] as usize;
+    let waiting = img[places::WAITING_AT];
     let added = r.passed + q.sunk;
-    let waiting = still_waiting(levels, k, h.waiting, r.ended);
+    let o = behind_stop(levels, k, r.passed, added, waiting, r.ended);
+    words_moved::clear(img, r.at, o.dropped);
+    let rows = o.next + 1;
+    let h = header::load(img, rows);
     let cuts = q.cuts;
     let counts = q.counts;
-    let g = rows_after::rows_after(h, cuts, counts, k, q.bound, added as u64, waiting);
-    header::store(img, g);
+    let more = o.added as u64;
+    let g = rows_after::rows_after(h, cuts, counts, k, q.bound, o.next, more, o.waiting);
+    header::store(img, g, rows);
 }
 
 // "A fresh image has no elements or updates and all bounds open."
@@ -70,11 +88,13 @@ fn fresh_rows(h: Header) -> Header
 }
 
 // "If no level holds one, .. the image is fresh again": what is left on the stack goes, and the header is that of a fresh image.
-pub fn wipe(img: &mut [u64], h: Header, r: Halt)
-    requires { ⌜ SomeSpent (now img) h r ⌝ }
-    ensures { λ _. ⌜ Wipes (now (img .entry)) (now (img .exit)) h r ⌝ }
+pub fn wipe(img: &mut [u64], r: Halt)
+    requires { ⌜ SomeSpent (now img) r ⌝ }
+    ensures { λ _. ⌜ Wipes (now (img .entry)) (now (img .exit)) r ⌝ }
 {
     words_moved::clear(img, r.at, r.passed);
+    let h = header::load(img, 0);
     let g = fresh_rows(h);
-    header::store(img, g);
+    let levels = h.levels as usize;
+    header::store(img, g, levels);
 }

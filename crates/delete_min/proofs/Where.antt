@@ -12,9 +12,8 @@ use Rattle.rules.specs.Rebuild.{smallest, rebuilt}
 use Rattle.rules.specs.Pair.{levels, idOf, keyOf}
 use Rattle.rules.specs.Sound.{Sound}
 use Rattle.plain.proofs.Every.{every-weaken}
-use Rattle.header.specs.Record.{Describes}
 use Rattle.rules.specs.Queue.{fresh, answer, deleteMin}
-use Rattle.layout.specs.Image.{HEAD, elementsFrom, stackFrom, stack, updatesBelow, layOut}
+use Rattle.layout.specs.Image.{HEAD, elementsFrom, stackFrom, workFrom, stack, updatesBelow, layOut}
 use Rattle.layout.specs.SoundImage.{nOf, heapOf, SoundImage, laidBack}
 use Rattle.layout.proofs.Image.{length-stack}
 use Rattle.push_update.proofs.Header.{top-is, top-fits}
@@ -23,12 +22,9 @@ use Rattle.rules.proofs.Rebuild.{all-within}
 use Rattle.rules.proofs.Refill.{asc-length}
 use Rattle.rules.proofs.Tally.{Sized, descend-sized}
 use Rattle.rules.proofs.Soundness.{sound-firm, delete-min-sound, levels-few}
-use Rattle.header.specs.declared.Header.{Header}
-use Rattle.header.specs.Record.{headerOf}
-use Rattle.header.proofs.Heap.{header-of-sound}
 use Rattle.at_work.proofs.Blocks.{roomy}
 use Rattle.descent.specs.declared.Halt.{Halt}
-use Rattle.descent.proofs.Starts.{top-length}
+use Rattle.descent.proofs.Starts.{top-length, words-say}
 use Rattle.descent.specs.Landed.{topOf, laterOf, Stopped, landedFrom}
 use Rattle.at_work.proofs.Spare.{spare}
 use Rattle.refill.specs.declared.Refilled.{Refilled}
@@ -45,23 +41,24 @@ module _ (xs : List ℕ) (k : SoundImage xs) where
   abbrev L : ℕ
   L = levels (nOf xs)
 
-  abbrev h : Header
-  h = headerOf xs
-
   sound : Firm n (heapOf xs)
   sound = sound-firm n (heapOf xs) (k .sound)
 
-  described : Describes h n (heapOf xs)
-  described = header-of-sound xs k
-
   -- where the stack ends, by the header's words
-  pub top-asks : (elementsFrom (h .levels) ≤ length xs) × (h .«stack_at» + updatesBelow (h .levels) (drop HEAD xs) ≤ length xs)
-  unfolding headerOf
+  pub top-asks : (elementsFrom (getD xs 1 0) ≤ length xs) × (getD xs 4 0 + updatesBelow (getD xs 1 0) (drop HEAD xs) ≤ length xs)
   top-asks = top-fits xs k
 
-  pub stack-ends : h .«stack_at» + updatesBelow (h .levels) (drop HEAD xs) ≡ stackFrom L + length (stack (heapOf xs))
-  unfolding headerOf
+  pub words-inside : 4 < length xs
+  words-inside = omega (arith, top-asks .0)
+
+  pub stack-ends : getD xs 4 0 + updatesBelow (getD xs 1 0) (drop HEAD xs) ≡ stackFrom L + length (stack (heapOf xs))
   stack-ends = top-is xs k ∙ ap (λ (z : ℕ). stackFrom L + z) (sym (length-stack (heapOf xs)))
+
+  -- what the header's words say, before the elements
+  says : (getD (topOf xs) 0 0 ≡ n) × (getD (topOf xs) 1 0 ≡ L) × (getD (topOf xs) 2 0 ≡ waiting (heapOf xs))
+      × (getD (topOf xs) 3 0 ≡ elementsFrom L) × (getD (topOf xs) 4 0 ≡ stackFrom L) × (getD (topOf xs) 5 0 ≡ workFrom n L)
+  unfolding topOf
+  says = (refl, refl, refl, refl, refl, refl)
 
   outcome : Outcome (Ends n) n (floor 0 (heapOf xs)) (live (heapOf xs)) (descend 0 [] (heapOf xs))
   outcome =
@@ -78,36 +75,36 @@ module _ (xs : List ℕ) (k : SoundImage xs) where
 
   module _ (r : Halt) (ys : List ℕ) where
     abbrev Lands : Found → Type 0
-    Lands F = landedFrom xs h r ys F
+    Lands F = landedFrom xs r ys F
 
-    pub spent : r .elements ≡ 0 → Lands (descend 0 [] (heapOf xs)) → Spent bare ys h r
+    pub spent : r .elements ≡ 0 → Lands (descend 0 [] (heapOf xs)) → Spent bare ys r
     spent z l = go (descend 0 [] (heapOf xs)) l
       where
-        go : (F : Found) → Lands F → Spent bare ys h r
+        go : (F : Found) → Lands F → Spent bare ys r
         go (stop s) m = absurd (omega (arith, m .some))
         go nothing m = record {
           through = m;
-          ids = described .n-is;
-          size = described .levels-is;
-          elements = described .elements-from;
-          stack = described .stack-from;
-          work = described .work-from;
+          ids = says .0;
+          size = says .1;
+          elements = says .3;
+          stack = says .4;
+          work = says .5;
           top-length = top-length xs k;
           levels-is = refl;
           small = levels-few n;
         }
 
-    pub emptied : r .elements ≡ 0 → Lands (descend 0 [] (heapOf xs)) → (zs : List ℕ) → zs ≡ layOut n (fresh L) ++ laterOf xs → Takes (Empty (h .levels)) xs zs
+    pub emptied : r .elements ≡ 0 → Lands (descend 0 [] (heapOf xs)) → (zs : List ℕ) → zs ≡ layOut n (fresh L) ++ laterOf xs → Takes (Empty (getD xs 1 0)) xs zs
     unfolding deleteMin laidBack laterOf
     emptied z l zs e = go (descend 0 [] (heapOf xs)) refl l
       where
         size : length (heapOf xs) ≡ L
         size = k .sound .size
 
-        go : (F : Found) → descend 0 [] (heapOf xs) ≡ F → Lands F → Takes (Empty (h .levels)) xs zs
+        go : (F : Found) → descend 0 [] (heapOf xs) ≡ F → Lands F → Takes (Empty (getD xs 1 0)) xs zs
         go (stop s) q m = absurd (omega (arith, m .some))
         go nothing q m = record {
-          answer = rw (q, size) (ap Empty (described .levels-is));
+          answer = rw (q, size) (ap Empty (words-say xs k .0));
           words = rw (q, size) e;
         }
 
@@ -115,7 +112,7 @@ module _ (xs : List ℕ) (k : SoundImage xs) where
     pub record Found-at : Type 0 where
       pub at : Stop
       pub found : descend 0 [] (heapOf xs) ≡ stop at
-      pub landed : Stopped n L (waiting (heapOf xs)) (topOf xs) (laterOf xs) (h .bounds) (h .«element_counts») (h .«update_counts») r ys at
+      pub landed : Stopped n L (waiting (heapOf xs)) (topOf xs) (laterOf xs) r ys at
 
     pub found-at : 0 < r .elements → Lands (descend 0 [] (heapOf xs)) → Found-at
     found-at z l = go (descend 0 [] (heapOf xs)) refl l
@@ -136,11 +133,12 @@ module _ (xs : List ℕ) (k : SoundImage xs) where
           let z : Sized (length (heapOf xs)) (stop s) = subst (λ (F : Found). Sized (length (heapOf xs)) F) (f .found) (descend-sized (length (heapOf xs)) 0 [] (heapOf xs) (omega arith)) in
           omega (arith, z, k .sound .size)
 
-      pub on-site : OnSite (site s) ys h r
+      pub on-site : OnSite (site s) ys r
       on-site = record {
         landed = f .landed;
-        first = omega (arith, described .elements-from, top-length xs k);
-        work = rw (top-length xs k) (described .work-from);
+        first = says .3 ∙ sym (top-length xs k);
+        work = rw (top-length xs k) (says .5);
+        head = top-length xs k;
         size = sized;
         small = levels-few n;
         roomy = roomy (Ends n) n (suc (s .bound)) (suc (s .level)) (s .deeper) (keeps .chain);
@@ -150,32 +148,28 @@ module _ (xs : List ℕ) (k : SoundImage xs) where
         ascends = keeps .ascends;
         within = all-within (Ends n) n (live (heapOf xs)) s keeps;
         pairs = every-weaken _ _ (λ p v. v .1) (s .elements) (keeps .valid);
-        long = described .element-counts-size;
       }
 
       rebuilt-sound : Sound n (rebuilt s)
       unfolding deleteMin
       rebuilt-sound = rw (f .found) at (delete-min-sound n (heapOf xs) (k .sound))
 
-      pub filled : (q : Refilled) (zs : List ℕ) → Refills (site s) zs h q → Filled (site s) zs h r q
+      pub filled : (q : Refilled) (zs : List ℕ) → Refills (site s) zs q → Filled (site s) zs r q
       filled q zs g = record {
         before = ys;
         site = on-site;
         refills = g;
-        ids = described .n-is;
-        size = described .levels-is;
-        waits = described .waiting-is;
-        stack-at = rw (top-length xs k) (described .stack-from);
-        top-length = top-length xs k;
+        ids = says .0;
+        size = says .1;
+        waits = says .2;
+        stack-at = rw (top-length xs k) (says .4);
         levels-is = refl;
-        bounds-long = described .bounds-size;
-        updates-long = described .update-counts-size;
         in-range = k .sound .range;
         sound = rebuilt-sound;
         chain = keeps .chain;
       }
 
-      pub taken : (q : Refilled) (zs us : List ℕ) → Refills (site s) zs h q → us ≡ layOut n (rebuilt s) ++ laterOf xs
+      pub taken : (q : Refilled) (zs us : List ℕ) → Refills (site s) zs q → us ≡ layOut n (rebuilt s) ++ laterOf xs
           → Takes (Min (idOf (getD (q .cuts) 0 0)) (keyOf (getD (q .cuts) 0 0)) (r .level + 1)) xs us
       unfolding deleteMin laidBack laterOf
       taken q zs us g e =

@@ -15,16 +15,17 @@ pub fn delete_min(img: &mut [u64]) -> Popped
     requires { ⌜ SoundImage (now img) ⌝ }
     ensures { λ r. ⌜ Takes r (now (img .entry)) (now (img .exit)) ⌝ }
 {
-    let h = header::load(img);
-    let end = push_update::stack_top(img, h.levels as usize, h.stack_at as usize);
-    let r = descent::go_down(img, h, end);
+    let levels = img[places::LEVELS_AT];
+    let stack = img[places::STACK_AT] as usize;
+    let end = push_update::stack_top(img, levels as usize, stack);
+    let r = descent::go_down(img, end);
     let some = r.elements;
     if some == 0 {
-        closing::wipe(img, h, r);
-        return Popped::Empty { reach: h.levels };
+        closing::wipe(img, r);
+        return Popped::Empty { reach: levels };
     }
-    let q = refill::refill(img, h, r);
-    closing::seal(img, h, r, q);
+    let q = refill::refill(img, r);
+    closing::seal(img, r, q);
     let p = q.cuts[0];
     let reach = r.level as u64 + 1;
     Popped::Min {

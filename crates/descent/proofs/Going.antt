@@ -18,11 +18,12 @@ use Rattle.rules.proofs.Tally.{tally-append, stores-wait}
 use Rattle.layout.specs.Words.{words}
 use Rattle.layout.specs.Image.{stack, stackWords}
 use Rattle.layout.proofs.Image.{length-words}
+use Rattle.header.specs.Record.{wordAt}
 use Rattle.at_work.specs.AtWork.{atWork, stackPlace}
 use Rattle.descent.specs.Landed.{Rows, Landed}
 
 -- ---- AT THE LOOP'S HEAD: level i is next, p updates are passed on to it, x have ended; the way down from here is the way down
-pub record Going (n L : ℕ) (top rest b e u : List ℕ) (ls₀ : List Level) (i at p x width floor : ℕ) (img : List ℕ) : Type 0 where
+pub record Going (n L : ℕ) (top rest : List ℕ) (ls₀ : List Level) (i at p x width floor : ℕ) (img : List ℕ) : Type 0 where
   pub levels : List Level
   pub passed : List Update
   pub words : img ≡ atWork n top rest i levels passed []
@@ -31,7 +32,7 @@ pub record Going (n L : ℕ) (top rest b e u : List ℕ) (ls₀ : List Level) (i
   pub valid : Every (ValidU n) passed
   pub clear : AllClear floor passed
   pub room : length (stack levels) + length passed ≤ stackWords n
-  pub rows : Rows b e u i levels
+  pub rows : Rows top i levels
   pub at-is : at ≡ stackPlace (length top) L + length (stack levels)
   pub p-is : p ≡ length passed
   pub ended : x + (tally waits (reading levels) + tally waits passed) ≡ waiting ls₀
@@ -39,13 +40,13 @@ pub record Going (n L : ℕ) (top rest b e u : List ℕ) (ls₀ : List Level) (i
   pub same : descend 0 [] ls₀ ≡ descend i passed levels
 
 -- past the last level
-pub going-through : {n L : ℕ} {top rest b e u : List ℕ} {ls₀ : List Level} {i at p x width floor : ℕ} {img : List ℕ}
-    → Going n L top rest b e u ls₀ i at p x width floor img → L ≤ i → (k : ℕ)
-    → Landed n L (waiting ls₀) top rest b e u (record { level = k; width = width; elements = 0; at = at; passed = p; ended = x }) img (descend 0 [] ls₀)
-going-through {n} {L} {top} {rest} {b} {e} {u} {ls₀} {i} {at} {p} {x} {width} {floor} {img} g h k = rw (g .same) (go (g .levels) refl)
+pub going-through : {n L : ℕ} {top rest : List ℕ} {ls₀ : List Level} {i at p x width floor : ℕ} {img : List ℕ}
+    → Going n L top rest ls₀ i at p x width floor img → L ≤ i → (k : ℕ)
+    → Landed n L (waiting ls₀) top rest (record { level = k; width = width; elements = 0; at = at; passed = p; ended = x }) img (descend 0 [] ls₀)
+going-through {n} {L} {top} {rest} {ls₀} {i} {at} {p} {x} {width} {floor} {img} g h k = rw (g .same) (go (g .levels) refl)
   where
     go : (ks : List Level) → g .levels ≡ ks
-        → Landed n L (waiting ls₀) top rest b e u (record { level = k; width = width; elements = 0; at = at; passed = p; ended = x }) img (descend i (g .passed) ks)
+        → Landed n L (waiting ls₀) top rest (record { level = k; width = width; elements = 0; at = at; passed = p; ended = x }) img (descend i (g .passed) ks)
     go [] z =
         let q : i ≡ L = omega (arith, g .size) in
         record {
@@ -59,7 +60,7 @@ going-through {n} {L} {top} {rest} {b} {e} {u} {ls₀} {i} {at} {p} {x} {width} 
     go (l ∷ ks) z = absurd (omega (arith, g .size, ap length z))
 
 -- at a level
-pub record Facing (n L : ℕ) (top rest b e u : List ℕ) (ls₀ : List Level) (i at p x width floor : ℕ) (img : List ℕ) : Type 0 where
+pub record Facing (n L : ℕ) (top rest : List ℕ) (ls₀ : List Level) (i at p x width floor : ℕ) (img : List ℕ) : Type 0 where
   pub level : Level
   pub deeper : List Level
   pub passed : List Update
@@ -70,23 +71,23 @@ pub record Facing (n L : ℕ) (top rest b e u : List ℕ) (ls₀ : List Level) (
   pub valid : Every (ValidU n) (level .updates ++ passed)
   pub clear : AllClear floor (level .updates ++ passed)
   pub room : length (stack deeper) + length (level .updates ++ passed) ≤ stackWords n
-  pub row : (getD b i 0 ≡ level .bound) × (getD e i 0 ≡ length (level .elements)) × (getD u i 0 ≡ length (level .updates))
-  pub rows : Rows b e u (suc i) deeper
-  pub at-is : at ≡ stackPlace (length top) L + length (stack deeper) + getD u i 0
-  pub count : getD u i 0 + p ≡ length (level .updates ++ passed)
+  pub row : (wordAt top 0 i ≡ level .bound) × (wordAt top 1 i ≡ length (level .elements)) × (wordAt top 2 i ≡ length (level .updates))
+  pub rows : Rows top (suc i) deeper
+  pub at-is : at ≡ stackPlace (length top) L + length (stack deeper) + wordAt top 2 i
+  pub count : wordAt top 2 i + p ≡ length (level .updates ++ passed)
   pub ended : x + (tally waits (reading deeper) + tally waits (level .updates ++ passed)) ≡ waiting ls₀
   pub wide : width ≡ 2 ^ i
   pub same : descend 0 [] ls₀ ≡ descend i passed (level ∷ deeper)
 
-pub faces : {n L : ℕ} {top rest b e u : List ℕ} {ls₀ : List Level} {i at p x width floor : ℕ} {img : List ℕ}
-    → Going n L top rest b e u ls₀ i at p x width floor img → i < L → Facing n L top rest b e u ls₀ i at p x width floor img
-faces {n} {L} {top} {rest} {b} {e} {u} {ls₀} {i} {at} {p} {x} {width} {floor} {img} g h = go (g .levels) refl
+pub faces : {n L : ℕ} {top rest : List ℕ} {ls₀ : List Level} {i at p x width floor : ℕ} {img : List ℕ}
+    → Going n L top rest ls₀ i at p x width floor img → i < L → Facing n L top rest ls₀ i at p x width floor img
+faces {n} {L} {top} {rest} {ls₀} {i} {at} {p} {x} {width} {floor} {img} g h = go (g .levels) refl
   where
-    go : (ks : List Level) → g .levels ≡ ks → Facing n L top rest b e u ls₀ i at p x width floor img
+    go : (ks : List Level) → g .levels ≡ ks → Facing n L top rest ls₀ i at p x width floor img
     go [] z = absurd (omega (arith, g .size, ap length z))
     go (l ∷ ls) z =
         let c : Chain (Ends n) n floor i (l ∷ ls) = rw z at (g .chain) in
-        let r : Rows b e u i (l ∷ ls) = rw z at (g .rows) in
+        let r : Rows top i (l ∷ ls) = rw z at (g .rows) in
         let s : length (stack (g .levels)) ≡ length (stack ls) + length (l .updates) =
         rw z (omega (arith, length-append (stack ls) (words (l .updates)), length-words (l .updates))) in
         let t : tally waits (reading (g .levels)) ≡ tally waits (reading ls) + tally waits (l .updates) =

@@ -1,5 +1,6 @@
 -- A turn of the loop down the levels: what the level's visit asks and does, and how the loop then goes on or ends.
 --   asks, visitable   what the code asks at a level        goes-on, stops   after its visit
+--   row-inside, row-is   its row is still that of the header
 -- Assumes nothing.
 use Prim.Native.Nat.{ℕ, suc, _+_, _-_, _*_, _^_, _<_, _≤_}
 use mathlib.Core.Path.{_≡_, refl, sym, ap, _∙_}
@@ -21,12 +22,13 @@ use Rattle.rules.proofs.Descent.{valid-take}
 use Rattle.rules.proofs.Refill.{asc-length, pos-pow}
 use Rattle.rules.proofs.Beyond.{passed-few, level-room}
 use Rattle.layout.specs.Words.{words, unwords}
-use Rattle.layout.specs.Image.{stack, stackWords}
+use Rattle.layout.specs.Image.{HEAD, ROW, stack, stackWords}
 use Rattle.layout.proofs.Image.{length-words, unwords-words}
 use Rattle.level.specs.declared.Counts.{Counts}
+use Rattle.header.specs.Record.{wordAt, rowOf}
 use Rattle.at_work.specs.AtWork.{atWork, Roomy, levelPlace, stackPlace, workPlace}
 use Rattle.at_work.proofs.Blocks.{length-area, roomy}
-use Rattle.at_work.proofs.Places.{working-length, work-read, work-set, passed-read, passed-store, level-read, level-clear}
+use Rattle.at_work.proofs.Places.{working-length, work-read, work-set, passed-read, passed-store, level-read, level-clear, top-word}
 use Rattle.at_work.proofs.Hands.{passed-clear}
 use Rattle.descent.specs.Visit.{Visitable, visited, Visited}
 use Rattle.descent.specs.Landed.{Landed}
@@ -41,8 +43,8 @@ floor-le : (n f i : ℕ) (ls : List Level) → Chain (Ends n) n f i ls → f ≤
 floor-le n f i [] c = omega (arith, c .0)
 floor-le n f i (l ∷ ls) c = omega (arith, c .0 .rises, floor-le n (suc (l .bound)) (suc i) ls (c .1))
 
-module _ {n L : ℕ} {top rest b e u : List ℕ} {ls₀ : List Level} {i at p x width floor : ℕ} {img : List ℕ}
-    (g : Facing n L top rest b e u ls₀ i at p x width floor img) {first work : ℕ} (f : first ≡ length top) (w : work ≡ workPlace (length top) L n) where
+module _ {n L : ℕ} {top rest : List ℕ} {ls₀ : List Level} {i at p x width floor : ℕ} {img : List ℕ}
+    (g : Facing n L top rest ls₀ i at p x width floor img) {first work : ℕ} (f : first ≡ length top) (w : work ≡ workPlace (length top) L n) where
   abbrev l : Level
   l = g .level
 
@@ -59,13 +61,13 @@ module _ {n L : ℕ} {top rest b e u : List ℕ} {ls₀ : List Level} {i at p x 
   from = first + (width - 1)
 
   abbrev m : ℕ
-  m = getD e i 0
+  m = wordAt top 1 i
 
   abbrev own : ℕ
-  own = getD u i 0
+  own = wordAt top 2 i
 
   abbrev bound : ℕ
-  bound = getD b i 0
+  bound = wordAt top 0 i
 
   abbrev run : ℕ
   run = at - own
@@ -98,8 +100,19 @@ module _ {n L : ℕ} {top rest b e u : List ℕ} {ls₀ : List Level} {i at p x 
   small : bound ≤ OPEN
   small = omega (arith, g .row .0, floor-le n (suc (l .bound)) (suc i) ls (g .chain))
 
+  -- the row that the code reads
+  module _ (long : length top ≡ HEAD + ROW * L) where
+    pub row-inside : HEAD + ROW * i + ROW ≤ length img
+    row-inside = omega (arith, long, g .size, img-length)
+
+    pub row-is : rowOf img i ≡ rowOf top i
+    row-is =
+        let word : (c : ℕ) → c < ROW → wordAt img c i ≡ wordAt top c i =
+        λ c h. ap (λ (z : List ℕ). wordAt z c i) (g .words) ∙ top-word n top rest i (l ∷ ls) (g .passed) [] (HEAD + ROW * i + c) (omega (arith, long, g .size)) in
+        rw (word 0 (omega arith), word 1 (omega arith), word 2 (omega arith)) refl
+
   -- what the code asks on the way
-  pub asks : (from ≤ work) × (own ≤ at) × (own + p ≤ work) × (width * 2 ≤ work + 1) × (1 ≤ width) × (bound ≤ OPEN)
+  pub asks : (from ≤ work) × (own ≤ at) × (own + p ≤ work) × (width * 2 + length top ≤ work + 1) × (1 ≤ width) × (bound ≤ OPEN)
   asks = (
     omega (arith, from-is, below, w, pos-pow i),
     omega (arith, g .at-is),
@@ -191,7 +204,7 @@ module _ {n L : ℕ} {top rest b e u : List ℕ} {ls₀ : List Level} {i at p x 
     x-is = omega (arith, g .ended, r-ended)
 
     -- nothing is held: on to the next level
-    pub goes-on : r .elements ≡ 0 → Going n L top rest b e u ls₀ (i + 1) run (r .passed) (x + r .ended) (width * 2) (bound + 1) zs
+    pub goes-on : r .elements ≡ 0 → Going n L top rest ls₀ (i + 1) run (r .passed) (x + r .ended) (width * 2) (bound + 1) zs
     goes-on h =
         let z : t .elements ≡ [] = nil-of-length (t .elements) (sym r-elements ∙ h) in
         rw (add-one i, add-one bound, g .row .0) (record {
@@ -213,11 +226,11 @@ module _ {n L : ℕ} {top rest b e u : List ℕ} {ls₀ : List Level} {i at p x 
 
     -- something is held: the way down ends here
     pub stops : 0 < r .elements
-        → Landed n L (waiting ls₀) top rest b e u (record { level = i; width = width; elements = r .elements; at = run; passed = r .passed; ended = x + r .ended }) zs (descend 0 [] ls₀)
+        → Landed n L (waiting ls₀) top rest (record { level = i; width = width; elements = r .elements; at = run; passed = r .passed; ended = x + r .ended }) zs (descend 0 [] ls₀)
     stops h = rw (g .same) (go (t .elements) refl)
       where
         go : (E : List ℕ) → t .elements ≡ E
-            → Landed n L (waiting ls₀) top rest b e u (record { level = i; width = width; elements = r .elements; at = run; passed = r .passed; ended = x + r .ended }) zs
+            → Landed n L (waiting ls₀) top rest (record { level = i; width = width; elements = r .elements; at = run; passed = r .passed; ended = x + r .ended }) zs
             (halt E (record { level = i; bound = l .bound; elements = t .elements; passed = t .passed; deeper = ls }) (descend (suc i) (t .passed) ls))
         go [] z = absurd (omega (arith, r-elements, ap length z))
         go (q ∷ E) z = record {

@@ -1,13 +1,13 @@
 -- Where the way down ends, in words.
 --   topOf, laterOf   the words of a sound image before its elements, and those behind it
---   Rows             what the header's columns say of levels
+--   Rows             what the header's rows say of levels
 --   Stopped          at a level                Through   past the last level
---   Landed           either, as `descend` says      landedFrom   the same from an image and its header
+--   Landed           either, as `descend` says      landedFrom   the same from an image
 -- Assumes nothing.
 use Prim.Native.Nat.{ℕ, suc, _+_, _^_, _<_, _≤_}
 use mathlib.Core.Path.{_≡_}
 use mathlib.Core.List.{List, [], _∷_, _++_}
-use lib.ListN.{length, getD, drop}
+use lib.ListN.{length, drop}
 use Rattle.plain.specs.Lists.{tally}
 use Rattle.rules.specs.Pair.{levels}
 use Rattle.rules.specs.Update.{Update, waits}
@@ -15,7 +15,7 @@ use Rattle.rules.specs.Heap.{Level, reading, waiting}
 use Rattle.rules.specs.Step.{Stop, Found, nothing, stop}
 use Rattle.layout.specs.Image.{headWords, rowWords, stack, stackWords, need}
 use Rattle.layout.specs.SoundImage.{nOf, heapOf}
-use Rattle.header.specs.declared.Header.{Header}
+use Rattle.header.specs.Record.{wordAt}
 use Rattle.at_work.specs.AtWork.{atWork, stackPlace}
 use Rattle.descent.specs.declared.Halt.{Halt}
 
@@ -25,14 +25,14 @@ topOf xs = headWords (nOf xs) (waiting (heapOf xs)) ++ rowWords (heapOf xs)
 unfoldable pub laterOf : List ℕ → List ℕ
 laterOf xs = drop (need (nOf xs)) xs
 
--- "level i: upper bound, element count, update count": the rows from i on are those of ls
-abbrev pub Rows : List ℕ → List ℕ → List ℕ → ℕ → List Level → Type 0
-Rows b e u i [] = Unit {0}
-Rows b e u i (l ∷ ls) =
-    (getD b i 0 ≡ l .bound) × (getD e i 0 ≡ length (l .elements)) × (getD u i 0 ≡ length (l .updates)) × Rows b e u (suc i) ls
+-- "level i: upper bound, element count, update count": the rows from i on, among the words before the elements, are those of ls
+abbrev pub Rows : List ℕ → ℕ → List Level → Type 0
+Rows top i [] = Unit {0}
+Rows top i (l ∷ ls) =
+    (wordAt top 0 i ≡ l .bound) × (wordAt top 1 i ≡ length (l .elements)) × (wordAt top 2 i ≡ length (l .updates)) × Rows top (suc i) ls
 
 -- at s: its elements stand in the work area, what it passed on stands behind the deeper levels' updates; w updates waited before
-pub record Stopped (n L w : ℕ) (top rest b e u : List ℕ) (r : Halt) (ys : List ℕ) (s : Stop) : Type 0 where
+pub record Stopped (n L w : ℕ) (top rest : List ℕ) (r : Halt) (ys : List ℕ) (s : Stop) : Type 0 where
   pub level : r .level ≡ s .level
   pub wide : r .width ≡ 2 ^ s .level
   pub some : 0 < r .elements
@@ -41,8 +41,8 @@ pub record Stopped (n L w : ℕ) (top rest b e u : List ℕ) (r : Halt) (ys : Li
   pub passed : r .passed ≡ length (s .passed)
   pub ended : r .ended + (tally waits (reading (s .deeper)) + tally waits (s .passed)) ≡ w
   pub words : ys ≡ atWork n top rest (suc (s .level)) (s .deeper) (s .passed) (s .elements)
-  pub bound : getD b (s .level) 0 ≡ s .bound
-  pub rows : Rows b e u (suc (s .level)) (s .deeper)
+  pub bound : wordAt top 0 (s .level) ≡ s .bound
+  pub rows : Rows top (suc (s .level)) (s .deeper)
 
 -- past the last level: what is left was passed past it
 pub record Through (n L : ℕ) (top rest : List ℕ) (r : Halt) (ys : List ℕ) : Type 0 where
@@ -53,10 +53,9 @@ pub record Through (n L : ℕ) (top rest : List ℕ) (r : Halt) (ys : List ℕ) 
   pub room : length left ≤ stackWords n
   pub words : ys ≡ atWork n top rest L [] left []
 
-abbrev pub Landed : ℕ → ℕ → ℕ → List ℕ → List ℕ → List ℕ → List ℕ → List ℕ → Halt → List ℕ → Found → Type 0
-Landed n L w top rest b e u r ys (stop s) = Stopped n L w top rest b e u r ys s
-Landed n L w top rest b e u r ys nothing = Through n L top rest r ys
+abbrev pub Landed : ℕ → ℕ → ℕ → List ℕ → List ℕ → Halt → List ℕ → Found → Type 0
+Landed n L w top rest r ys (stop s) = Stopped n L w top rest r ys s
+Landed n L w top rest r ys nothing = Through n L top rest r ys
 
-abbrev pub landedFrom : List ℕ → Header → Halt → List ℕ → Found → Type 0
-landedFrom xs h r ys f =
-    Landed (nOf xs) (levels (nOf xs)) (waiting (heapOf xs)) (topOf xs) (laterOf xs) (h .bounds) (h .«element_counts») (h .«update_counts») r ys f
+abbrev pub landedFrom : List ℕ → Halt → List ℕ → Found → Type 0
+landedFrom xs r ys f = Landed (nOf xs) (levels (nOf xs)) (waiting (heapOf xs)) (topOf xs) (laterOf xs) r ys f

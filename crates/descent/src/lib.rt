@@ -8,10 +8,8 @@ ghost use Rattle.rules.specs.Pair.{levels};
 ghost use Rattle.rules.specs.Step.{descend};
 ghost use Rattle.layout.specs.Image.{stackFrom, stack};
 ghost use Rattle.layout.specs.SoundImage.{nOf, heapOf, SoundImage};
-ghost use Rattle.header.specs.Record.{Describes};
 ghost use Rattle.descent.specs.Landed.{landedFrom};
 ghost use Rattle.descent.specs.Visit.{Visitable, Visited};
-use header::Header;
 use level::Counts;
 
 // Where the way down ends: the level and its room, its elements (none past the last level), where the deeper levels' updates end, how many
@@ -57,14 +55,14 @@ fn visit(
 
 // "From level 0 down, each level takes its updates in order, then stops at the first level that still holds an element." `end` is where the
 // stack ends.
-pub fn go_down(img: &mut [u64], h: Header, end: usize) -> Halt
-    requires { ⌜ SoundImage (now img) × Describes h (nOf (now img)) (heapOf (now img)) × (end ≡ stackFrom (levels (nOf (now img))) + length (stack (heapOf (now img)))) ⌝ }
-    ensures { λ r. ⌜ landedFrom (now (img .entry)) h r (now (img .exit)) (descend 0 [] (heapOf (now (img .entry)))) ⌝ }
+pub fn go_down(img: &mut [u64], end: usize) -> Halt
+    requires { ⌜ SoundImage (now img) × (end ≡ stackFrom (levels (nOf (now img))) + length (stack (heapOf (now img)))) ⌝ }
+    ensures { λ r. ⌜ landedFrom (now (img .entry)) r (now (img .exit)) (descend 0 [] (heapOf (now (img .entry)))) ⌝ }
 {
-    let n = h.n as usize;
-    let levels = h.levels as usize;
-    let first = h.elements_at as usize;
-    let work = h.work_at as usize;
+    let n = img[places::N_AT] as usize;
+    let levels = img[places::LEVELS_AT] as usize;
+    let first = img[places::ELEMENTS_AT] as usize;
+    let work = img[places::WORK_AT] as usize;
     let mut at = end;
     let mut held = 0;
     let mut passed = 0;
@@ -76,10 +74,11 @@ pub fn go_down(img: &mut [u64], h: Header, end: usize) -> Halt
         if i >= levels {
             break i;
         }
-        let m = h.element_counts[i] as usize;
-        let own = h.update_counts[i] as usize;
+        let row = header::row_at(img, i);
+        let m = row.elements as usize;
+        let own = row.updates as usize;
+        let bound = row.bound;
         at -= own;
-        let bound = h.bounds[i];
         let from = first + (width - 1);
         let count = own + passed;
         let t = visit(img, from, m, work, n, at, count, bound, floor);

@@ -1,4 +1,4 @@
--- Turns: the turns of the two loops. Heap: the record of a heap, and of a sound image. Passed: what the two walks pass. Assumes nothing.
+-- Turns: the turns of the two loops. Columns: what a record that was read out of words has. Passed: what the two walks pass. Assumes nothing.
 pub mod Turns
-pub mod Heap
+pub mod Columns
 pub mod Passed

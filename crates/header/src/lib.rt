@@ -1,12 +1,12 @@
 // The image's header as one record with its level rows: read out of an image, stored back, and one row brought up to date, by value and in place.
-// The meanings are specs/Record.antt; what the record of a sound image holds is proofs/Heap.antt.
+// The meanings are specs/Record.antt.
 ghost use mathlib.Core.Path.{_≡_};
 ghost use mathlib.Core.List.{[], _∷_};
 ghost use Prim.Native.Nat.{_+_, _*_, _<_, _≤_};
 ghost use lib.ListN.{length, getD};
 ghost use lib.Seq.{sets};
 ghost use Rattle.layout.specs.Image.{HEAD, ROW};
-ghost use Rattle.header.specs.Record.{ROWS, headerOf, wordsOf, withRow};
+ghost use Rattle.header.specs.Record.{ROWS, rowOf, headerUpto, wordsUpto, withRow};
 
 // "The header is held as one record with its level rows (at most seventeen)": three flat arrays beside n, L and the offsets. Each field is a
 // word of the image.
@@ -27,12 +27,31 @@ impl Header {
     pub const ROWS: usize = 17;
 }
 
-// The header of any words that have the rows they say.
-pub fn load(img: &[u64]) -> Header
-    requires { ⌜ (HEAD ≤ length (now img)) × (getD (now img) 1 0 ≤ ROWS) × (HEAD + ROW * getD (now img) 1 0 ≤ length (now img)) ⌝ }
-    ensures { λ r. ⌜ r ≡ headerOf (now (img .entry)) ⌝ }
+// "level i: upper bound, element count, update count"
+pub struct Row {
+    pub bound: u64,
+    pub elements: u64,
+    pub updates: u64,
+}
+
+// One level's row, as the words say it.
+pub fn row_at(img: &[u64], i: usize) -> Row
+    requires { ⌜ HEAD + ROW * i + ROW ≤ length (now img) ⌝ }
+    ensures { λ r. ⌜ r ≡ rowOf (now (img .entry)) i ⌝ }
 {
-    let levels = img[places::LEVELS_AT] as usize;
+    let at = places::HEAD + places::ROW * i;
+    Row {
+        bound: img[at + places::BOUND],
+        elements: img[at + places::ELEMENTS],
+        updates: img[at + places::UPDATES],
+    }
+}
+
+// The header of any words, with the rows of the first levels, so many as are asked for. A Delete-Min that stops early has few to bring up to date.
+pub fn load(img: &[u64], rows: usize) -> Header
+    requires { ⌜ (rows ≤ ROWS) × (HEAD + ROW * rows ≤ length (now img)) ⌝ }
+    ensures { λ r. ⌜ r ≡ headerUpto (now (img .entry)) rows ⌝ }
+{
     let mut h = Header {
         n: img[places::N_AT],
         levels: img[places::LEVELS_AT],
@@ -45,7 +64,7 @@ pub fn load(img: &[u64]) -> Header
         update_counts: [0u64; Header::ROWS],
     };
     let mut i = 0;
-    while i < levels {
+    while i < rows {
         h.bounds[i] = img[places::HEAD + places::ROW * i + places::BOUND];
         h.element_counts[i] = img[places::HEAD + places::ROW * i + places::ELEMENTS];
         h.update_counts[i] = img[places::HEAD + places::ROW * i + places::UPDATES];
@@ -65,10 +84,10 @@ pub fn store_row(img: &mut [u64], i: usize, bound: u64, elements: u64, updates: 
     img[at + 2] = updates;
 }
 
-// The header stored back: its words and the rows of its levels, and no other word.
-pub fn store(img: &mut [u64], h: Header)
-    requires { ⌜ (h .levels ≤ ROWS) × (HEAD + ROW * h .levels ≤ length (now img)) ⌝ }
-    ensures { λ _. ⌜ now (img .exit) ≡ sets (now (img .entry)) 0 (wordsOf h) ⌝ }
+// The header stored back: its words and the rows of the first levels, and no other word.
+pub fn store(img: &mut [u64], h: Header, rows: usize)
+    requires { ⌜ (rows ≤ ROWS) × (HEAD + ROW * rows ≤ length (now img)) ⌝ }
+    ensures { λ _. ⌜ now (img .exit) ≡ sets (now (img .entry)) 0 (wordsUpto h rows) ⌝ }
 {
     img[0] = h.n;
     img[1] = h.levels;
@@ -76,12 +95,11 @@ pub fn store(img: &mut [u64], h: Header)
     img[3] = h.elements_at;
     img[4] = h.stack_at;
     img[5] = h.work_at;
-    let levels = h.levels as usize;
     let b = h.bounds;
     let e = h.element_counts;
     let u = h.update_counts;
     let mut i = 0;
-    while i < levels {
+    while i < rows {
         store_row(img, i, b[i], e[i], u[i]);
         i += 1;
     }

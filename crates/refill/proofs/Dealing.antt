@@ -19,6 +19,7 @@ use Rattle.layout.specs.Words.{words}
 use Rattle.layout.specs.Image.{stack}
 use Rattle.plain.proofs.Every.{every-sift}
 use Rattle.rules.proofs.Sort.{count, rank, under-suc, count-span, cut-rank, cut-mono, at-le-cut, rank-least}
+use Rattle.header.specs.Record.{ROWS}
 use Rattle.at_work.specs.AtWork.{atWork, Roomy, levelPlace, workPlace}
 use Rattle.at_work.proofs.Blocks.{length-area}
 use Rattle.rules.proofs.Refill.{pos-pow}
@@ -82,19 +83,18 @@ module _ (b : ℕ) (E : List ℕ) (a : Asc 0 E) (w : Every (λ p. p ≤ b) E) (s
   rung-last = rank-least b 0 E a w some
 
 -- ---- AT THE LOOP'S HEAD: the levels from j on are filled, e elements are left
-pub record Dealing (d : Deck) (j k e w : ℕ) (img counts c : List ℕ) : Type 0 where
+pub record Dealing (d : Deck) (j k e w : ℕ) (img c : List ℕ) : Type 0 where
   pub words : img ≡ atWork (d .ids) (d .top) (d .rest) j (filled d j (k - j)) (d .passed) (stays (rung (d .bound) (d .elements) j) (d .elements))
   pub left : e ≡ length (stays (rung (d .bound) (d .elements) j) (d .elements))
   pub wide : w ≡ 2 ^ j
   pub size : j + length (filled d j (k - j)) ≡ d .levels
   pub roomy : Roomy j (filled d j (k - j))
   pub room : length (stack (filled d j (k - j))) + length (d .passed) ≤ 3 * d .ids
-  pub long : length c ≡ 17
+  pub long : length c ≡ ROWS
   pub count : (i : ℕ) → j ≤ i → i < k → getD c i 0 ≡ length (share (d .bound) (d .elements) i)
-  pub others : (i : ℕ) → k ≤ i → getD c i 0 ≡ getD counts i 0
 
-pub down : (d : Deck) (j i k e w : ℕ) (img counts c : List ℕ) → j ≡ suc i → Dealing d j k e w img counts c → Dealing d (suc i) k e w img counts c
-down d j i k e w img counts c q g = subst (λ (z : ℕ). Dealing d z k e w img counts c) q g
+pub down : (d : Deck) (j i k e w : ℕ) (img c : List ℕ) → j ≡ suc i → Dealing d j k e w img c → Dealing d (suc i) k e w img c
+down d j i k e w img c q g = subst (λ (z : ℕ). Dealing d z k e w img c) q g
 
 module _ (d : Deck) (xs : List ℕ) (first work m k width : ℕ) (p : List ℕ) (o : OnDeck d xs first work m k width p) where
   abbrev n : ℕ
@@ -109,8 +109,8 @@ module _ (d : Deck) (xs : List ℕ) (first work m k width : ℕ) (p : List ℕ) 
   abbrev E : List ℕ
   E = d .elements
 
-  pub dealing-starts : (counts : List ℕ) → length counts ≡ 17 → Dealing d k k m width xs counts counts
-  dealing-starts counts l =
+  pub dealing-starts : (c : List ℕ) → length c ≡ ROWS → Dealing d k k m width xs c
+  dealing-starts c l =
       let z : k - k ≡ 0 = omega arith in
       record {
         words = rw z (o .words);
@@ -121,11 +121,10 @@ module _ (d : Deck) (xs : List ℕ) (first work m k width : ℕ) (p : List ℕ) 
         room = rw z (o .room);
         long = l;
         count = λ i h g. absurd (omega arith);
-        others = λ i h. refl;
       }
 
   -- what is left stands in the work area
-  module _ (j e w : ℕ) (img counts c : List ℕ) (g : Dealing d j k e w img counts c) where
+  module _ (j e w : ℕ) (img c : List ℕ) (g : Dealing d j k e w img c) where
     abbrev F : List ℕ
     F = stays (rung b E j) E
 
@@ -153,7 +152,7 @@ module _ (d : Deck) (xs : List ℕ) (first work m k width : ℕ) (p : List ℕ) 
     below = omega (arith, length-area j (d .levels) (filled d j (k - j)) (sym (g .size)) (g .roomy))
 
   -- ---- A TURN: level i is put on
-  module _ (i e w : ℕ) (img counts c : List ℕ) (g : Dealing d (suc i) k e w img counts c) (h : suc i ≤ k) (small : k < 17) where
+  module _ (i e w : ℕ) (img c : List ℕ) (g : Dealing d (suc i) k e w img c) (h : suc i ≤ k) (small : k < ROWS) where
     abbrev F₁ : List ℕ
     F₁ = stays (rung b E (suc i)) E
 
@@ -177,11 +176,11 @@ module _ (d : Deck) (xs : List ℕ) (first work m k width : ℕ) (p : List ℕ) 
 
     pub split-asks : (work + e ≤ length img) × (to + e ≤ work) × Every (λ q. q < 2 ^ 56) (part img work e) × (1 ≤ w / 2) × (w ≤ work + 1)
     split-asks = (
-      omega (arith, img-length (suc i) e w img counts c g, o .work-is, g .left, few (suc i) e w img counts c g),
-      omega (arith, to-is, below (suc i) e w img counts c g, pow-suc 2 i, o .work-is, g .left, few (suc i) e w img counts c g),
-      rw (stands (suc i) e w img counts c g) (every-sift (λ q. q < 2 ^ 56) (λ q. leb q (rung b E (suc i))) E (o .small)),
+      omega (arith, img-length (suc i) e w img c g, o .work-is, g .left, few (suc i) e w img c g),
+      omega (arith, to-is, below (suc i) e w img c g, pow-suc 2 i, o .work-is, g .left, few (suc i) e w img c g),
+      rw (stands (suc i) e w img c g) (every-sift (λ q. q < 2 ^ 56) (λ q. leb q (rung b E (suc i))) E (o .small)),
       omega (arith, half, pos-pow i),
-      omega (arith, g .wide, below (suc i) e w img counts c g, o .work-is, pos-pow i),
+      omega (arith, g .wide, below (suc i) e w img c g, o .work-is, pos-pow i),
     )
 
     size′ : i + length (l ∷ ls) ≡ d .levels
@@ -200,10 +199,10 @@ module _ (d : Deck) (xs : List ℕ) (first work m k width : ℕ) (p : List ℕ) 
 
     module _ (v r : ℕ) (zs : List ℕ) (v-is : v ≡ rung b E i) (q : Parted r img zs work e to 0 v) where
       stay : stays v (part img work e) ≡ F₀
-      stay = rw (stands (suc i) e w img counts c g, v-is) (stays-stays (rung b E i) (rung b E (suc i)) E (rung-mono b E (o .ascends) (o .within) (o .some) i))
+      stay = rw (stands (suc i) e w img c g, v-is) (stays-stays (rung b E i) (rung b E (suc i)) E (rung-mono b E (o .ascends) (o .within) (o .some) i))
 
       go-out : tagged 0 (goes v (part img work e)) ≡ share b E i
-      go-out = rw (stands (suc i) e w img counts c g, v-is) (tagged-none (goes (rung b E i) F₁) ∙ goes-stays (rung b E i) (rung b E (suc i)) E)
+      go-out = rw (stands (suc i) e w img c g, v-is) (tagged-none (goes (rung b E i) F₁) ∙ goes-stays (rung b E i) (rung b E (suc i)) E)
 
       pub both : length F₀ + length (share b E i) ≡ length F₁
       both =
@@ -220,7 +219,7 @@ module _ (d : Deck) (xs : List ℕ) (first work m k width : ℕ) (p : List ℕ) 
           ∙ rw (stay, go-out) refl
           ∙ ap (λ (z : List ℕ). sets (sets z to (share b E i)) work (pad e F₀)) (g .words)
           ∙ rw (to-is, level-fill n (d .levels) (d .top) (d .rest) i (cut b (2 ^ suc i) E) (share b E i) ls (share-fits b E (o .ascends) (o .within) (o .some) i) (d .passed) F₁, o .work-is, g .left)
-          (work-store n (d .levels) (d .top) (d .rest) i (l ∷ ls) size′ roomy′ (d .passed) F₁ room′ (few (suc i) e w img counts c g) F₀ (omega (arith, both)))
+          (work-store n (d .levels) (d .top) (d .rest) i (l ∷ ls) size′ roomy′ (d .passed) F₁ room′ (few (suc i) e w img c g) F₀ (omega (arith, both)))
 
       pub r-is : r ≡ length F₀
       r-is = q .kept ∙ ap length stay
@@ -234,7 +233,7 @@ module _ (d : Deck) (xs : List ℕ) (first work m k width : ℕ) (p : List ℕ) 
       pub r-le : r ≤ e
       r-le = omega (arith, r-is, both, g .left)
 
-      pub dealing-on : Dealing d i k r (w / 2) zs counts (set c i (e - r))
+      pub dealing-on : Dealing d i k r (w / 2) zs (set c i (e - r))
       dealing-on = record {
         words = rw next zs-is;
         left = r-is;
@@ -244,19 +243,18 @@ module _ (d : Deck) (xs : List ℕ) (first work m k width : ℕ) (p : List ℕ) 
         room = rw next room′;
         long = length-set c i (e - r) ∙ g .long;
         count = λ x y z. counted x y z (ltb i x) refl;
-        others = λ x y. getD-set-other c i x (e - r) 0 (λ z. omega arith) ∙ g .others x y;
       }
 
   -- the smallest goes
-  pub dealing-ends : (e w : ℕ) (img counts c : List ℕ) → Dealing d 0 k e w img counts c → (work < length img) × Dealt d (set img work 0) k counts c
-  dealing-ends e w img counts c g =
+  pub dealing-ends : (e w : ℕ) (img c : List ℕ) → Dealing d 0 k e w img c → (work < length img) × Dealt d (set img work 0) k c
+  dealing-ends e w img c g =
       let F = stays (rung b E 0) E in
       let one : length F ≡ 1 = rung-last b E (o .ascends) (o .within) (o .some) in
       let z : k - 0 ≡ k = omega arith in
       let W = atWork n (d .top) (d .rest) 0 (filled d 0 (k - 0)) (d .passed) F in
       let zero-word : pad (length F) [] ≡ 0 ∷ [] = ap (λ (x : ℕ). pad x []) one in
-      let s = work-store n (d .levels) (d .top) (d .rest) 0 (filled d 0 (k - 0)) (g .size) (g .roomy) (d .passed) F (g .room) (few 0 e w img counts c g) [] (omega arith) in (
-        omega (arith, img-length 0 e w img counts c g, o .work-is, few 0 e w img counts c g, one),
+      let s = work-store n (d .levels) (d .top) (d .rest) 0 (filled d 0 (k - 0)) (g .size) (g .roomy) (d .passed) F (g .room) (few 0 e w img c g) [] (omega arith) in (
+        omega (arith, img-length 0 e w img c g, o .work-is, few 0 e w img c g, one),
         record {
           words =
               ap (λ (x : List ℕ). set x work 0) (g .words)
@@ -265,7 +263,6 @@ module _ (d : Deck) (xs : List ℕ) (first work m k width : ℕ) (p : List ℕ) 
               ∙ s
               ∙ ap (λ (x : ℕ). atWork n (d .top) (d .rest) 0 (filled d 0 x) (d .passed) []) z;
           count = λ x y. g .count x (omega arith) y;
-          others = g .others;
           long = g .long;
         },
       )

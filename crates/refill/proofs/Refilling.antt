@@ -14,10 +14,10 @@ use Rattle.rules.specs.Step.{Stop}
 use Rattle.rules.specs.Rebuild.{smallest}
 use Rattle.rules.specs.Cuts.{cut, spread, restCuts, doubles}
 use Rattle.layout.specs.Words.{words}
-use Rattle.layout.specs.Image.{stack}
-use Rattle.header.specs.declared.Header.{Header}
+use Rattle.layout.specs.Image.{HEAD, ROW, stack}
+use Rattle.header.specs.Record.{ROWS, wordAt}
 use Rattle.at_work.specs.AtWork.{atWork, stackPlace, workPlace}
-use Rattle.at_work.proofs.Places.{working-length, work-elements, work-store, behind-store, behind-read, level-fill}
+use Rattle.at_work.proofs.Places.{working-length, work-elements, work-store, behind-store, behind-read, level-fill, top-word}
 use Rattle.descent.specs.declared.Halt.{Halt}
 use Rattle.split.specs.Split.{stays, goes, tagged, Parted}
 use Rattle.split.proofs.Turns.{split-length}
@@ -57,7 +57,7 @@ deck d = record {
   passed = d .stop .passed ++ restCuts (d .stop);
 }
 
-module _ (d : Site) (xs : List ℕ) (h : Header) (r : Halt) (o : OnSite d xs h r) where
+module _ (d : Site) (xs : List ℕ) (r : Halt) (o : OnSite d xs r) where
   abbrev n : ℕ
   n = d .ids
 
@@ -76,8 +76,11 @@ module _ (d : Site) (xs : List ℕ) (h : Header) (r : Halt) (o : OnSite d xs h r
   abbrev top : List ℕ
   top = d .top
 
+  abbrev first : ℕ
+  first = getD xs 3 0
+
   abbrev work : ℕ
-  work = h .«work_at»
+  work = getD xs 5 0
 
   abbrev end : ℕ
   end = r .at + r .passed
@@ -91,8 +94,18 @@ module _ (d : Site) (xs : List ℕ) (h : Header) (r : Halt) (o : OnSite d xs h r
   at-level : r .level ≡ s .level
   at-level = o .landed .level
 
-  bound-is : getD (h .bounds) (r .level) 0 ≡ b
-  bound-is = rw at-level (o .landed .bound)
+  -- a word of the header is still as it was
+  word-is : (j : ℕ) → j < length top → getD xs j 0 ≡ getD top j 0
+  word-is j h = ap (λ (z : List ℕ). getD z j 0) (o .landed .words) ∙ top-word n top (d .rest) (suc (s .level)) (s .deeper) (s .passed) E j h
+
+  first-is : first ≡ length top
+  first-is = word-is 3 (omega (arith, o .head)) ∙ o .first
+
+  work-is : work ≡ workPlace (length top) L n
+  work-is = word-is 5 (omega (arith, o .head)) ∙ o .work
+
+  bound-is : wordAt xs 0 (r .level) ≡ b
+  bound-is = rw at-level (word-is (HEAD + ROW * s .level + 0) (omega (arith, o .head, o .size)) ∙ o .landed .bound)
 
   end-is : end ≡ stackPlace (length top) L + length (stack (s .deeper)) + length (s .passed)
   end-is = omega (arith, o .landed .at, o .landed .passed)
@@ -103,15 +116,19 @@ module _ (d : Site) (xs : List ℕ) (h : Header) (r : Halt) (o : OnSite d xs h r
   xs-length : length xs ≡ workPlace (length top) L n + n + length (d .rest)
   xs-length = ap length (o .landed .words) ∙ working-length n L top (d .rest) (suc (s .level)) (s .deeper) (o .size) (o .roomy) (s .passed) E room (o .few)
 
+  -- what the code reads
+  pub words-inside : (5 < length xs) × (HEAD + ROW * r .level + ROW ≤ length xs)
+  words-inside = (omega (arith, xs-length, o .head), omega (arith, xs-length, o .head, o .size, at-level))
+
   stands : part xs work m ≡ E
   stands =
       ap (λ (z : List ℕ). part z work m) (o .landed .words)
-      ∙ rw (o .work, o .landed .elements) (work-elements n L top (d .rest) (suc (s .level)) (s .deeper) (o .size) (o .roomy) (s .passed) E room (o .few))
+      ∙ rw (work-is, o .landed .elements) (work-elements n L top (d .rest) (suc (s .level)) (s .deeper) (o .size) (o .roomy) (s .passed) E room (o .few))
 
-  pub cuts-asks : (work + m ≤ length xs) × (end + m ≤ work) × (1 ≤ m) × (r .level < 17) × (part xs end m ≡ replicate m 0)
+  pub cuts-asks : (work + m ≤ length xs) × (end + m ≤ work) × (1 ≤ m) × (r .level < ROWS) × (part xs end m ≡ replicate m 0)
   cuts-asks = (
-    omega (arith, xs-length, o .work, o .landed .elements, o .few),
-    omega (arith, end-is, o .work, o .landed .elements, o .spare),
+    omega (arith, xs-length, work-is, o .landed .elements, o .few),
+    omega (arith, end-is, work-is, o .landed .elements, o .spare),
     o .landed .some,
     omega (arith, at-level, o .size, o .small),
     ap (λ (z : List ℕ). part z end m) (o .landed .words)
@@ -122,11 +139,11 @@ module _ (d : Site) (xs : List ℕ) (h : Header) (r : Halt) (o : OnSite d xs h r
   split-small = rw stands (o .pairs)
 
   -- ---- with the cuts
-  module _ (p : List ℕ) (q : Ladder (getD (h .bounds) (r .level) 0) (part xs work m) (r .level) p) where
+  module _ (p : List ℕ) (q : Ladder (wordAt xs 0 (r .level)) (part xs work m) (r .level) p) where
     pub ladder-is : Ladder b E (s .level) p
     ladder-is = rw (bound-is, stands, at-level) at q
 
-    module _ (v : ℕ) (e : v ≡ lastCut (getD p (r .level) 0) (r .level) m (getD (h .bounds) (r .level) 0)) where
+    module _ (v : ℕ) (e : v ≡ lastCut (getD p (r .level) 0) (r .level) m (wordAt xs 0 (r .level))) where
       pub v-is : v ≡ c
       v-is = e ∙ rw (bound-is, at-level, ladder-is .at (s .level) (omega arith), o .landed .elements) (last-is b E (s .level))
 
@@ -163,7 +180,7 @@ module _ (d : Site) (xs : List ℕ) (h : Header) (r : Halt) (o : OnSite d xs h r
             ∙ rw (
               end-is,
               behind-store n L top (d .rest) (suc (s .level)) (s .deeper) (o .size) (o .roomy) (s .passed) E room (o .few) (restCuts s) (omega (arith, o .spare, both)),
-              o .work,
+              work-is,
               o .landed .elements,
             )
             (work-store n L top (d .rest) (suc (s .level)) (s .deeper) (o .size) (o .roomy) (s .passed ++ restCuts s) E room-after (o .few) F (omega (arith, both)))
@@ -172,11 +189,11 @@ module _ (d : Site) (xs : List ℕ) (h : Header) (r : Halt) (o : OnSite d xs h r
         put-on : zs ≡ atWork n top (d .rest) (s .level) (deck d .tail) (s .passed ++ restCuts s) F
         put-on = zs-is ∙ level-fill n L top (d .rest) (s .level) c [] (s .deeper) (omega arith) (s .passed ++ restCuts s) F
 
-        pub on-deck : OnDeck (deck d) zs (h .«elements_at») work kept (r .level) (r .width) p
+        pub on-deck : OnDeck (deck d) zs first work kept (r .level) (r .width) p
         on-deck = rw at-level (record {
           words = put-on;
-          first-is = o .first;
-          work-is = o .work;
+          first-is = first-is;
+          work-is = work-is;
           kept = kept-is;
           wide = o .landed .wide;
           size = omega (arith, o .size);
@@ -190,16 +207,15 @@ module _ (d : Site) (xs : List ℕ) (h : Header) (r : Halt) (o : OnSite d xs h r
           ladder = ladder-is;
         })
 
-        pub refilled : (ys counts : List ℕ) → Dealt (deck d) ys (r .level) (h .«element_counts») counts
-            → Refills d ys h (record { cuts = p; counts = counts; bound = v; sunk = m - kept })
+        pub refilled : (ys counts : List ℕ) → Dealt (deck d) ys (r .level) counts
+            → Refills d ys (record { cuts = p; counts = counts; bound = v; sunk = m - kept })
         refilled ys counts g =
-            let g′ : Dealt (deck d) ys (s .level) (h .«element_counts») counts = rw at-level at g in
+            let g′ : Dealt (deck d) ys (s .level) counts = rw at-level at g in
             record {
               words = g′ .words ∙ ap (λ (ls : List Level). atWork n top (d .rest) 0 ls (s .passed ++ restCuts s) []) (sym (append-assoc (spread doubles b E (suc (smallest E)) 0 (s .level)) (record { bound = c; elements = []; updates = [] } ∷ []) (s .deeper)));
               ladder = ladder-is;
               bound = v-is;
               sunk = sunk-is;
               count = g′ .count;
-              others = g′ .others;
               long = g′ .long;
             }

@@ -14,6 +14,7 @@ use Rattle.rules.specs.Heap.{Level}
 use Rattle.rules.specs.Pair.{OPEN}
 use Rattle.rules.specs.Cuts.{span, spread, doubles}
 use Rattle.layout.specs.Image.{stack, stackWords}
+use Rattle.header.specs.Record.{ROWS}
 use Rattle.at_work.specs.AtWork.{atWork, Roomy, workPlace}
 use Rattle.split.specs.Split.{stays}
 use Rattle.cuts.specs.Ladder.{rung, Ladder}
@@ -55,15 +56,14 @@ pub record OnDeck (d : Deck) (xs : List ℕ) (first work m k width : ℕ) (p : L
   pub ladder : Ladder (d .bound) (d .elements) k p
 
 -- they fill the levels, the smallest is gone, and the counts are those of the levels
-pub record Dealt (d : Deck) (ys : List ℕ) (k : ℕ) (counts later : List ℕ) : Type 0 where
+pub record Dealt (d : Deck) (ys : List ℕ) (k : ℕ) (counts : List ℕ) : Type 0 where
   pub words : ys ≡ atWork (d .ids) (d .top) (d .rest) 0 (filled d 0 k) (d .passed) []
-  pub count : (j : ℕ) → j < k → getD later j 0 ≡ length (share (d .bound) (d .elements) j)
-  pub others : (j : ℕ) → k ≤ j → getD later j 0 ≡ getD counts j 0
-  pub long : length later ≡ 17
+  pub count : (j : ℕ) → j < k → getD counts j 0 ≡ length (share (d .bound) (d .elements) j)
+  pub long : length counts ≡ ROWS
 
 -- the contract: for whatever deck it is
 abbrev pub SomeDeck : List ℕ → ℕ → ℕ → ℕ → ℕ → ℕ → List ℕ → Type 0
 SomeDeck xs first work m k width p = (d : Deck) × OnDeck d xs first work m k width p
 
-abbrev pub Deals : List ℕ → List ℕ → ℕ → ℕ → ℕ → ℕ → ℕ → List ℕ → List ℕ → List ℕ → Type 0
-Deals xs ys first work m k width p counts c = (d : Deck) → OnDeck d xs first work m k width p → Dealt d ys k counts c
+abbrev pub Deals : List ℕ → List ℕ → ℕ → ℕ → ℕ → ℕ → ℕ → List ℕ → List ℕ → Type 0
+Deals xs ys first work m k width p counts = (d : Deck) → OnDeck d xs first work m k width p → Dealt d ys k counts

@@ -13,9 +13,9 @@ use Rattle.rules.specs.Sound.{Asc}
 use Rattle.plain.specs.Lists.{Every}
 use Rattle.rules.specs.Step.{Stop}
 use Rattle.rules.specs.Cuts.{cut, refillCuts, restCuts}
-use Rattle.layout.specs.Image.{stack, stackWords}
+use Rattle.layout.specs.Image.{elementsFrom, stack, stackWords}
 use Rattle.rules.specs.Pair.{OPEN}
-use Rattle.header.specs.declared.Header.{Header}
+use Rattle.header.specs.Record.{ROWS}
 use Rattle.at_work.specs.AtWork.{atWork, Roomy, workPlace}
 use Rattle.descent.specs.declared.Halt.{Halt}
 use Rattle.descent.specs.Landed.{Stopped}
@@ -31,12 +31,13 @@ pub record Site : Type 0 where
   pub rest : List ℕ
   pub stop : Stop
 
-pub record OnSite (d : Site) (xs : List ℕ) (h : Header) (r : Halt) : Type 0 where
-  pub landed : Stopped (d .ids) (d .levels) (d .waits) (d .top) (d .rest) (h .bounds) (h .«element_counts») (h .«update_counts») r xs (d .stop)
-  pub first : h .«elements_at» ≡ length (d .top)
-  pub work : h .«work_at» ≡ workPlace (length (d .top)) (d .levels) (d .ids)
+pub record OnSite (d : Site) (xs : List ℕ) (r : Halt) : Type 0 where
+  pub landed : Stopped (d .ids) (d .levels) (d .waits) (d .top) (d .rest) r xs (d .stop)
+  pub first : getD (d .top) 3 0 ≡ length (d .top)
+  pub work : getD (d .top) 5 0 ≡ workPlace (length (d .top)) (d .levels) (d .ids)
+  pub head : length (d .top) ≡ elementsFrom (d .levels)
   pub size : suc (d .stop .level) + length (d .stop .deeper) ≡ d .levels
-  pub small : d .levels ≤ 17
+  pub small : d .levels ≤ ROWS
   pub roomy : Roomy (suc (d .stop .level)) (d .stop .deeper)
   pub spare : length (stack (d .stop .deeper)) + length (d .stop .passed) + length (d .stop .elements) ≤ stackWords (d .ids)
   pub few : length (d .stop .elements) ≤ d .ids
@@ -44,24 +45,22 @@ pub record OnSite (d : Site) (xs : List ℕ) (h : Header) (r : Halt) : Type 0 wh
   pub ascends : Asc 0 (d .stop .elements)
   pub within : Every (λ q. q ≤ d .stop .bound) (d .stop .elements)
   pub pairs : Every (λ q. q < OPEN) (d .stop .elements)
-  pub long : length (h .«element_counts») ≡ 17
 
 -- the bound that level k keeps, pk being the cut at 2 ^ k, or the smallest for k = 0
 abbrev pub lastCut : ℕ → ℕ → ℕ → ℕ → ℕ
 lastCut pk k m b = cond (ltb 0 k) pk (cond (leb m 1) b pk)
 
 -- the levels are filled again, the rest have sunk, and the work area is clear
-pub record Refills (d : Site) (ys : List ℕ) (h : Header) (q : Refilled) : Type 0 where
+pub record Refills (d : Site) (ys : List ℕ) (q : Refilled) : Type 0 where
   pub words : ys ≡ atWork (d .ids) (d .top) (d .rest) 0 (refillCuts (d .stop .bound) (d .stop .elements) (d .stop .level) ++ d .stop .deeper) (d .stop .passed ++ restCuts (d .stop)) []
   pub ladder : Ladder (d .stop .bound) (d .stop .elements) (d .stop .level) (q .cuts)
   pub bound : q .bound ≡ cut (d .stop .bound) (2 ^ d .stop .level) (d .stop .elements)
   pub sunk : q .sunk ≡ length (restCuts (d .stop))
   pub count : (j : ℕ) → j < d .stop .level → getD (q .counts) j 0 ≡ length (share (d .stop .bound) (d .stop .elements) j)
-  pub others : (j : ℕ) → d .stop .level ≤ j → getD (q .counts) j 0 ≡ getD (h .«element_counts») j 0
-  pub long : length (q .counts) ≡ 17
+  pub long : length (q .counts) ≡ ROWS
 
-abbrev pub SomeSite : List ℕ → Header → Halt → Type 0
-SomeSite xs h r = (d : Site) × OnSite d xs h r
+abbrev pub SomeSite : List ℕ → Halt → Type 0
+SomeSite xs r = (d : Site) × OnSite d xs r
 
-abbrev pub RefillsAny : List ℕ → List ℕ → Header → Halt → Refilled → Type 0
-RefillsAny xs ys h r q = (d : Site) → OnSite d xs h r → Refills d ys h q
+abbrev pub RefillsAny : List ℕ → List ℕ → Halt → Refilled → Type 0
+RefillsAny xs ys r q = (d : Site) → OnSite d xs r → Refills d ys q

@@ -2,7 +2,7 @@
 // again. The header's words wait (Rattle.rows_after).
 ghost use mathlib.Core.Path.{_≡_};
 ghost use Prim.Native.Nat.{_<_};
-ghost use lib.ListN.{length};
+ghost use Rattle.header.specs.Record.{ROWS};
 ghost use Rattle.refill.specs.Deck.{SomeDeck, Deals};
 ghost use Rattle.refill.specs.Site.{lastCut, SomeSite, RefillsAny};
 use descent::Halt;
@@ -11,7 +11,7 @@ use header::Header;
 // A pair with this added is the word of its Sink.
 const SINK: u64 = 3 << 56;
 
-// The cuts, level k's new bound, the element counts of the levels below it, and how many pairs became Sinks.
+// The cuts, level k's new bound, the element counts of the levels below it (what stands behind them says nothing), and how many pairs became Sinks.
 pub struct Refilled {
     pub cuts: [u64; Header::ROWS],
     pub counts: [u64; Header::ROWS],
@@ -20,7 +20,7 @@ pub struct Refilled {
 }
 
 // "The others, ascending, fill level 0, 1 and on, up to 2^i each": the kept elements, m of them at `work`, but for the smallest, fill the
-// levels from k-1 up. What is above a level's cut is that level's, so what is left halves from turn to turn. The counts are the answer.
+// levels from k-1 up. What is above a level's cut is that level's, so what is left halves from turn to turn. Their counts are the answer.
 fn deal(
     img: &mut [u64],
     first: usize,
@@ -29,12 +29,11 @@ fn deal(
     k: usize,
     width: usize,
     p: [u64; Header::ROWS],
-    counts: [u64; Header::ROWS],
 ) -> [u64; Header::ROWS]
-    requires { ⌜ (k < 17) × (length counts ≡ 17) × SomeDeck (now img) first work m k width p ⌝ }
-    ensures { λ c. ⌜ Deals (now (img .entry)) (now (img .exit)) first work m k width p counts c ⌝ }
+    requires { ⌜ (k < ROWS) × SomeDeck (now img) first work m k width p ⌝ }
+    ensures { λ c. ⌜ Deals (now (img .entry)) (now (img .exit)) first work m k width p c ⌝ }
 {
-    let mut c = counts;
+    let mut c = [0u64; Header::ROWS];
     let mut e = m;
     let mut w = width;
     let mut j = k;
@@ -64,20 +63,21 @@ fn last_cut(pk: u64, k: usize, m: usize, b: u64) -> u64
 
 // "if more than 2^k elements are there, keep the 2^k smallest; the rest become Sinks at the end of level k+1's updates, in ascending id"; the
 // smallest goes, and the others fill the levels below k.
-pub fn refill(img: &mut [u64], h: Header, r: Halt) -> Refilled
-    requires { ⌜ SomeSite (now img) h r ⌝ }
-    ensures { λ q. ⌜ RefillsAny (now (img .entry)) (now (img .exit)) h r q ⌝ }
+pub fn refill(img: &mut [u64], r: Halt) -> Refilled
+    requires { ⌜ SomeSite (now img) r ⌝ }
+    ensures { λ q. ⌜ RefillsAny (now (img .entry)) (now (img .exit)) r q ⌝ }
 {
     let k = r.level;
     let m = r.elements;
-    let first = h.elements_at as usize;
-    let work = h.work_at as usize;
+    let first = img[places::ELEMENTS_AT] as usize;
+    let work = img[places::WORK_AT] as usize;
     let end = r.at + r.passed;
-    let b = h.bounds[k];
+    let row = header::row_at(img, k);
+    let b = row.bound;
     let cuts = cuts::cuts(img, work, m, end, k, b);
     let bound = last_cut(cuts[k], k, m, b);
     let kept = split::split(img, work, m, end, SINK, bound);
-    let counts = deal(img, first, work, kept, k, r.width, cuts, h.element_counts);
+    let counts = deal(img, first, work, kept, k, r.width, cuts);
     Refilled {
         cuts,
         counts,

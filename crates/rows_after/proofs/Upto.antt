@@ -11,8 +11,12 @@ use lib.Dec.{ltb}
 use lib.ListN.{length, getD, set, length-set}
 use lib.Seq.{getD-set-same, getD-set-other}
 use Rattle.header.specs.declared.Header.{Header}
-use Rattle.header.specs.Record.{ROWS}
+use Rattle.header.specs.Record.{ROWS, withRow}
 use Rattle.rows_after.specs.Rows.{Framed, Refreshed}
+
+-- a row anew leaves the numbers and offsets
+pub frame-kept : {h f : Header} {waiting : ℕ} (i b e u : ℕ) → Framed h f waiting → Framed h (withRow f i b e u) waiting
+frame-kept i b e u f = record { ids = f .ids; size = f .size; waits = f .waits; elements = f .elements; stack = f .stack; work = f .work }
 
 -- x is x₀ with f's words in the first j places
 pub record Upto (f : ℕ → ℕ) (j : ℕ) (x₀ x : List ℕ) : Type 0 where
@@ -37,36 +41,27 @@ upto-turn f j v x₀ x g h e = record {
         rw z (getD-set-same x j v 0 (omega (arith, g .long)) ∙ e)
 
 -- THE ROWS BELOW j are filled: g is g₀ but for them
-pub record Filling (g₀ g : Header) (p : List ℕ) (j : ℕ) : Type 0 where
+pub record Filling (g₀ g : Header) (p counts : List ℕ) (j : ℕ) : Type 0 where
   pub frame : Framed g₀ g (g₀ .waiting)
-  pub counts-are : g .«element_counts» ≡ g₀ .«element_counts»
   pub bounds : Upto (λ i. getD p (suc i) 0) j (g₀ .bounds) (g .bounds)
+  pub elements : Upto (λ i. getD counts i 0) j (g₀ .«element_counts») (g .«element_counts»)
   pub updates : Upto (λ i. 0) j (g₀ .«update_counts») (g .«update_counts»)
 
-pub filling-starts : (g : Header) (p : List ℕ) → length (g .bounds) ≡ ROWS → length (g .«update_counts») ≡ ROWS → Filling g g p 0
-filling-starts g p b u = record {
+pub filling-starts : (g : Header) (p counts : List ℕ) → length (g .bounds) ≡ ROWS → length (g .«element_counts») ≡ ROWS → length (g .«update_counts») ≡ ROWS → Filling g g p counts 0
+filling-starts g p counts b e u = record {
   frame = record { ids = refl; size = refl; waits = refl; elements = refl; stack = refl; work = refl };
-  counts-are = refl;
   bounds = upto-starts _ (g .bounds) b;
+  elements = upto-starts _ (g .«element_counts») e;
   updates = upto-starts _ (g .«update_counts») u;
 }
 
-pub filling-turn : (g₀ g : Header) (p : List ℕ) (j : ℕ) → Filling g₀ g p j → j < ROWS
-    → Filling g₀ (record {
-      n = g .n;
-      levels = g .levels;
-      waiting = g .waiting;
-      «elements_at» = g .«elements_at»;
-      «stack_at» = g .«stack_at»;
-      «work_at» = g .«work_at»;
-      bounds = set (g .bounds) j (getD p (j + 1) 0);
-      «element_counts» = g .«element_counts»;
-      «update_counts» = set (g .«update_counts») j 0;
-    }) p (j + 1)
-filling-turn g₀ g p j f h = record {
-  frame = record { ids = f .frame .ids; size = f .frame .size; waits = f .frame .waits; elements = f .frame .elements; stack = f .frame .stack; work = f .frame .work };
-  counts-are = f .counts-are;
+-- a turn sets row j
+pub filling-turn : (g₀ g : Header) (p counts : List ℕ) (j : ℕ) → Filling g₀ g p counts j → j < ROWS
+    → Filling g₀ (withRow g j (getD p (j + 1) 0) (getD counts j 0) 0) p counts (j + 1)
+filling-turn g₀ g p counts j f h = record {
+  frame = frame-kept j _ _ _ (f .frame);
   bounds = upto-turn (λ i. getD p (suc i) 0) j (getD p (j + 1) 0) (g₀ .bounds) (g .bounds) (f .bounds) h (ap (λ (z : ℕ). getD p z 0) (add-one j));
+  elements = upto-turn (λ i. getD counts i 0) j (getD counts j 0) (g₀ .«element_counts») (g .«element_counts») (f .elements) h refl;
   updates = upto-turn (λ i. 0) j 0 (g₀ .«update_counts») (g .«update_counts») (f .updates) h refl;
 }
 
@@ -80,17 +75,19 @@ pub refreshed : (h g : Header) (p counts : List ℕ) (k waiting : ℕ)
       «stack_at» = h .«stack_at»;
       «work_at» = h .«work_at»;
       bounds = h .bounds;
-      «element_counts» = counts;
+      «element_counts» = h .«element_counts»;
       «update_counts» = h .«update_counts»;
-    }) g p k
+    }) g p counts k
     → Refreshed h g p counts k waiting
 refreshed h g p counts k waiting f = record {
   frame = record { ids = f .frame .ids; size = f .frame .size; waits = f .frame .waits; elements = f .frame .elements; stack = f .frame .stack; work = f .frame .work };
   bounds-long = f .bounds .long;
+  counts-long = f .elements .long;
   updates-long = f .updates .long;
-  counts-are = f .counts-are;
   bounds = f .bounds .low;
   bounds-on = f .bounds .high;
+  counts-to = f .elements .low;
+  counts-on = f .elements .high;
   updates = f .updates .low;
   updates-on = f .updates .high;
 }

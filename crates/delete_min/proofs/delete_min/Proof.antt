@@ -1,41 +1,39 @@
+-- `delete_min::delete_min` meets its contract: its calls one after another (proofs/Where.antt).
+-- Assumes nothing.
 use mathlib.Core.Path.{_∙_}
 use native.Mathlib.Omega.{arith}
 use borrow.Author.Needs.{needs}
-use Rattle.header.proofs.Heap.{header-of-sound, header-inside}
-use Rattle.delete_min.proofs.Where.{top-asks, stack-ends, bare, site, spent, emptied, found-at, on-site, filled, taken}
+use Rattle.delete_min.proofs.Where.{words-inside, top-asks, stack-ends, bare, site, spent, emptied, found-at, on-site, filled, taken}
 use Rattle.delete_min.proofs.delete_min.Statement.{statement}
 use Rattle.delete_min.proofs.delete_min.Tie as tie
 
-load-requires : tie.Need-load-requires
-load-requires c κs = header-inside (c .before .before .args .img .now) (c .before .before .pre)
+slice-read-levels : tie.Need-slice-read-levels
+slice-read-levels c = omega (arith, words-inside (c .before .before .args .img .now) (c .before .before .pre))
+
+slice-read-stack : tie.Need-slice-read-stack
+slice-read-stack c = words-inside (c .before .before .before .args .img .now) (c .before .before .before .pre)
 
 stack-top-requires : tie.Need-stack-top-requires
 stack-top-requires c κs =
     let s = c .before .before .before .before in
     let xs = s .args .img .now in
     let k = s .pre in
-    let e = c .before .load .ensures in
-    rw e (top-asks xs k)
+    top-asks xs k
 
 go-down-requires : tie.Need-go-down-requires
 go-down-requires c κs =
     let s = c .before .before .before .before .before .before in
     let xs = s .args .img .now in
     let k = s .pre in
-    let e = c .before .before .before .load .ensures in
-    let a = rw e at (c .before .stack-top .ensures) in
-    (k, rw e (header-of-sound xs k), a ∙ stack-ends xs k)
+    (k, c .before .stack-top .ensures ∙ stack-ends xs k)
 
 wipe-requires : tie.Need-wipe-requires
 wipe-requires c κs =
     let s = c .before .before .before .before .before .before .before .before .before .before .before in
     let xs = s .args .img .now in
     let k = s .pre in
-    let e = c .before .before .before .before .before .before .before .before .load .ensures in
-    let l = rw e at (c .before .before .before .before .go-down .ensures) in
-    let r = c .before .before .before .before .go-down .result in
-    let ys = c .before .before .before .before .go-down .last .0 in
-    rw e (bare xs k, spent xs k _ _ (omega arith) l)
+    let w = c .before .before .before .before .go-down in
+    (bare xs k, spent xs k _ _ (omega arith) (w .ensures))
 
 same-length : tie.Need-same-length
 same-length c = search needs
@@ -45,40 +43,27 @@ returns c =
     let s = c .before .before .before .before .before .before .before .before .before .before .before .before .before .before in
     let xs = s .args .img .now in
     let k = s .pre in
-    let e = c .before .before .before .before .before .before .before .before .before .before .before .load .ensures in
-    let l = rw e at (c .before .before .before .before .before .before .before .go-down .ensures) in
-    let r = c .before .before .before .before .before .before .before .go-down .result in
-    let ys = c .before .before .before .before .before .before .before .go-down .last .0 in
-    let w = rw e at (c .before .before .wipe .ensures) in
-    rw e (emptied xs k _ _ (omega arith) l _ (w (bare xs k) (spent xs k _ _ (omega arith) l)))
+    let w = c .before .before .before .before .before .before .before .go-down in
+    emptied xs k _ _ (omega arith) (w .ensures) _ (c .before .before .wipe .ensures (bare xs k) (spent xs k _ _ (omega arith) (w .ensures)))
 
 refill-requires : tie.Need-refill-requires
 refill-requires c κs =
     let s = c .before .before .before .before .before .before .before .before .before .before .before in
     let xs = s .args .img .now in
     let k = s .pre in
-    let e = c .before .before .before .before .before .before .before .before .load .ensures in
-    let l = rw e at (c .before .before .before .before .go-down .ensures) in
-    let r = c .before .before .before .before .go-down .result in
-    let ys = c .before .before .before .before .go-down .last .0 in
-    let f = found-at xs k r ys (omega arith) l in
-    rw e (site xs k (f .at), on-site xs k r ys f)
+    let w = c .before .before .before .before .go-down in
+    let f = found-at xs k (w .result) (w .last .0) (omega arith) (w .ensures) in
+    (site xs k (f .at), on-site xs k _ _ f)
 
 seal-requires : tie.Need-seal-requires
 seal-requires c κs =
     let s = c .before .before .before .before .before .before .before .before .before .before .before .before .before .before .before in
     let xs = s .args .img .now in
     let k = s .pre in
-    let e = c .before .before .before .before .before .before .before .before .before .before .before .before .load .ensures in
-    let l = rw e at (c .before .before .before .before .before .before .before .before .go-down .ensures) in
-    let r = c .before .before .before .before .before .before .before .before .go-down .result in
-    let ys = c .before .before .before .before .before .before .before .before .go-down .last .0 in
-    let f = found-at xs k r ys (omega arith) l in
-    let q = c .before .before .before .refill .result in
-    let zs = c .before .before .before .refill .last .0 in
-    let w = rw e at (c .before .before .before .refill .ensures) in
-    let g = w (site xs k (f .at)) (on-site xs k r ys f) in
-    rw e (site xs k (f .at), filled xs k r ys f q zs g)
+    let w = c .before .before .before .before .before .before .before .before .go-down in
+    let f = found-at xs k (w .result) (w .last .0) (omega arith) (w .ensures) in
+    let g = c .before .before .before .refill .ensures (site xs k (f .at)) (on-site xs k _ _ f) in
+    (site xs k (f .at), filled xs k _ _ f _ _ g)
 
 element-copy-out-p : tie.Need-element-copy-out-p
 element-copy-out-p c = search needs
@@ -88,12 +73,9 @@ add-reach c =
     let s = c .before .before .before .before .before .before .before .before .before .before .before .before .before .before .before .before .before .before .before in
     let xs = s .args .img .now in
     let k = s .pre in
-    let e = c .before .before .before .before .before .before .before .before .before .before .before .before .before .before .before .before .load .ensures in
-    let l = rw e at (c .before .before .before .before .before .before .before .before .before .before .before .before .go-down .ensures) in
-    let r = c .before .before .before .before .before .before .before .before .before .before .before .before .go-down .result in
-    let ys = c .before .before .before .before .before .before .before .before .before .before .before .before .go-down .last .0 in
-    let f = found-at xs k r ys (omega arith) l in
-    let o = on-site xs k r ys f in
+    let w = c .before .before .before .before .before .before .before .before .before .before .before .before .go-down in
+    let f = found-at xs k (w .result) (w .last .0) (omega arith) (w .ensures) in
+    let o = on-site xs k _ _ f in
     omega (arith, o .landed .level, o .size, o .small)
 
 id-requires : tie.Need-id-requires
@@ -110,23 +92,17 @@ returns-2 c =
     let s = c .before .before .before .before .before .before .before .before .before .before .before .before .before .before .before .before .before .before .before .before .before in
     let xs = s .args .img .now in
     let k = s .pre in
-    let e = c .before .before .before .before .before .before .before .before .before .before .before .before .before .before .before .before .before .before .load .ensures in
-    let l = rw e at (c .before .before .before .before .before .before .before .before .before .before .before .before .before .before .go-down .ensures) in
-    let r = c .before .before .before .before .before .before .before .before .before .before .before .before .before .before .go-down .result in
-    let ys = c .before .before .before .before .before .before .before .before .before .before .before .before .before .before .go-down .last .0 in
-    let f = found-at xs k r ys (omega arith) l in
-    let q = c .before .before .before .before .before .before .before .before .before .refill .result in
-    let zs = c .before .before .before .before .before .before .before .before .before .refill .last .0 in
-    let w = rw e at (c .before .before .before .before .before .before .before .before .before .refill .ensures) in
-    let g = w (site xs k (f .at)) (on-site xs k r ys f) in
-    let v = rw e at (c .before .before .before .before .before .seal .ensures) in
-    rw (c .before .id .ensures, c .key .ensures) (taken xs k r ys f q zs _ g (v (site xs k (f .at)) (filled xs k r ys f q zs g)))
+    let w = c .before .before .before .before .before .before .before .before .before .before .before .before .before .before .go-down in
+    let f = found-at xs k (w .result) (w .last .0) (omega arith) (w .ensures) in
+    let g = c .before .before .before .before .before .before .before .before .before .refill .ensures (site xs k (f .at)) (on-site xs k _ _ f) in
+    rw (c .before .id .ensures, c .key .ensures) (taken xs k _ _ f _ _ _ g (c .before .before .before .before .before .seal .ensures (site xs k (f .at)) (filled xs k _ _ f _ _ g)))
 
 pub delete-min-spec : {M : Type 1} → statement M
 delete-min-spec =
     tie.close
     (tie.spec
-    load-requires
+    slice-read-levels
+    slice-read-stack
     stack-top-requires
     go-down-requires
     wipe-requires

@@ -1,41 +1,37 @@
 -- `header::load` meets its contract: each turn reads one more row (`header-turn`).
 -- Assumes nothing.
-use Prim.Native.Nat.{ℕ, _+_, _-_, _*_, _≤_, _<_}
-use mathlib.Core.Path.{_≡_, refl, sym, ap, _∙_}
+use Prim.Native.Nat.{_-_, _≤_}
+use mathlib.Core.Path.{_≡_, refl, ap, _∙_}
 use native.Mathlib.Omega.{arith}
 use borrow.Author.Needs.{needs}
-use Rattle.header.specs.Record.{headerUpto, headerOf}
+use Rattle.header.specs.Record.{headerUpto}
 use Rattle.header.proofs.Turns.{header-turn}
-use lib.ListN.{length, getD, set, take, drop, length-set}
 use Rattle.header.proofs.load.Statement.{statement}
 use Rattle.header.proofs.load.Tie as tie
 
 abbrev Inv-loop : tie.InvT-loop
-Inv-loop img levels h₀ i₀ h i = (i ≤ levels) × (h ≡ headerUpto img i)
+Inv-loop img rows h₀ i₀ h i = (i ≤ rows) × (h ≡ headerUpto img i)
 
 abbrev μ-loop : tie.MeasureT-loop
-μ-loop img levels h₀ i₀ h i = levels - i
-
-shared-slice-read-levels : tie.Need-shared-slice-read-levels Inv-loop μ-loop
-shared-slice-read-levels c = search needs
+μ-loop img rows h₀ i₀ h i = rows - i
 
 shared-slice-read-t6 : tie.Need-shared-slice-read-t6 Inv-loop μ-loop
 shared-slice-read-t6 c = search needs
 
-shared-slice-read-t9 : tie.Need-shared-slice-read-t9 Inv-loop μ-loop
-shared-slice-read-t9 c = search needs
+shared-slice-read-t8 : tie.Need-shared-slice-read-t8 Inv-loop μ-loop
+shared-slice-read-t8 c = search needs
 
-shared-slice-read-t11 : tie.Need-shared-slice-read-t11 Inv-loop μ-loop
-shared-slice-read-t11 c = search needs
+shared-slice-read-t10 : tie.Need-shared-slice-read-t10 Inv-loop μ-loop
+shared-slice-read-t10 c = search needs
 
-shared-slice-read-t13 : tie.Need-shared-slice-read-t13 Inv-loop μ-loop
-shared-slice-read-t13 c = search needs
+shared-slice-read-t12 : tie.Need-shared-slice-read-t12 Inv-loop μ-loop
+shared-slice-read-t12 c = search needs
 
-shared-slice-read-t15 : tie.Need-shared-slice-read-t15 Inv-loop μ-loop
-shared-slice-read-t15 c = search needs
+shared-slice-read-t14 : tie.Need-shared-slice-read-t14 Inv-loop μ-loop
+shared-slice-read-t14 c = search needs
 
-shared-slice-read-t17 : tie.Need-shared-slice-read-t17 Inv-loop μ-loop
-shared-slice-read-t17 c = search needs
+shared-slice-read-t16 : tie.Need-shared-slice-read-t16 Inv-loop μ-loop
+shared-slice-read-t16 c = search needs
 
 loop-holds : tie.Need-loop-holds Inv-loop μ-loop
 loop-holds c = (omega arith, refl)
@@ -112,15 +108,14 @@ loop-less c = search needs
 loop-again : tie.Need-loop-again Inv-loop μ-loop
 loop-again c =
     let l = c .before .before .before .before .loop in
-    (omega arith, header-turn (c .before .before .before .before .before .before .before .before .before .before .before .before .args .img .now) (l .h) (l .i) (omega arith) (l .inv .1))
+    (omega arith, header-turn (c .before .before .before .before .before .before .before .before .before .before .before .args .img .now) (l .h) (l .i) (omega arith) (l .inv .1))
 
 returns : tie.Need-returns Inv-loop μ-loop
-unfolding headerOf
 returns c =
     let l = c .before .loop in
-    let ws = c .before .before .before .before .before .before .before .before .before .args .img .now in
-    let e : l .i ≡ getD ws 1 0 = omega arith in
-    l .inv .1 ∙ ap (headerUpto ws) e
+    let a = c .before .before .before .before .before .before .before .before .args in
+    let e : l .i ≡ a .rows = omega arith in
+    l .inv .1 ∙ ap (headerUpto (a .img .now)) e
 
 pub load-spec : {M : Type 1} → statement M
 load-spec =
@@ -128,13 +123,12 @@ load-spec =
     (tie.spec
     Inv-loop
     μ-loop
-    shared-slice-read-levels
     shared-slice-read-t6
-    shared-slice-read-t9
-    shared-slice-read-t11
-    shared-slice-read-t13
-    shared-slice-read-t15
-    shared-slice-read-t17
+    shared-slice-read-t8
+    shared-slice-read-t10
+    shared-slice-read-t12
+    shared-slice-read-t14
+    shared-slice-read-t16
     loop-holds
     mul-h
     add-h

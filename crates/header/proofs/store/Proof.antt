@@ -8,7 +8,7 @@ use lib.ListN.{length, length-set}
 use lib.Seq.{sets, length-sets}
 use Rattle.lists.specs.Put.{put-append}
 use Rattle.layout.specs.Image.{HEAD, ROW}
-use Rattle.header.specs.Record.{rowsOf, atLevel, wordsOf}
+use Rattle.header.specs.Record.{rowsOf, atLevel, wordsUpto}
 use Rattle.header.proofs.Turns.{row-turn}
 use Rattle.header.proofs.store.Statement.{statement}
 use Rattle.header.proofs.store.Tie as tie
@@ -82,10 +82,9 @@ same-length : tie.Need-same-length Inv-loop μ-loop
 same-length c = simp length-set at (c .before .loop .inv .1)
 
 returns : tie.Need-returns Inv-loop μ-loop
-unfolding wordsOf
+unfolding wordsUpto
 returns c =
-    let h = c .before .before .before .before .before .before .args .h in
-    let e : c .before .loop .i ≡ h .levels = omega arith in
+    let e : c .before .loop .i ≡ c .before .before .before .before .before .before .args .rows = omega arith in
     rw put-append (cc (c .before .loop .inv .3))
 
 pub store-spec : {M : Type 1} → statement M

@@ -10,7 +10,7 @@ use Rattle.refill.proofs.deal.Tie as tie
 
 abbrev Inv-loop : tie.InvT-loop
 Inv-loop img₀ first work m k width p c₀ e₀ w₀ j₀ img c e w j =
-    (j ≤ k) × (length img ≡ length img₀) × ((d : Deck) → OnDeck d img₀ first work m k width p → Dealing d j k e w img c₀ c)
+    (j ≤ k) × (length img ≡ length img₀) × ((d : Deck) → OnDeck d img₀ first work m k width p → Dealing d j k e w img c)
 
 abbrev μ-loop : tie.MeasureT-loop
 μ-loop img₀ first work m k width p c₀ e₀ w₀ j₀ img c e w j = j
@@ -18,7 +18,7 @@ abbrev μ-loop : tie.MeasureT-loop
 loop-holds : tie.Need-loop-holds Inv-loop μ-loop
 loop-holds c =
     let a = c .before .args in
-    (omega arith, refl, λ d o. dealing-starts d (a .img .now) (a .first) (a .work) (a .m) (a .k) (a .width) (a .t7) o (a .counts) (c .before .pre .1))
+    (omega arith, refl, λ d o. dealing-starts d (a .img .now) (a .first) (a .work) (a .m) (a .k) (a .width) (a .t7) o _ refl)
 
 sub-j : tie.Need-sub-j Inv-loop μ-loop
 sub-j c = search needs
@@ -28,10 +28,10 @@ sub-split c =
     let l = c .before .before .loop in
     let s = c .before .before .before .before in
     let a = s .args in
-    let d = s .pre .2 .0 in
-    let o = s .pre .2 .1 in
-    let g = down d (l .j) (l .j - 1) (a .k) (l .e) (l .w) (l .img) (a .counts) (l .c) (omega arith) (l .inv .2 d o) in
-    let q = split-asks d (a .img .now) (a .first) (a .work) (a .m) (a .k) (a .width) (a .t7) o (l .j - 1) (l .e) (l .w) (l .img) (a .counts) (l .c) g (omega arith) (s .pre .0) in
+    let d = s .pre .1 .0 in
+    let o = s .pre .1 .1 in
+    let g = down d (l .j) (l .j - 1) (a .k) (l .e) (l .w) (l .img) (l .c) (omega arith) (l .inv .2 d o) in
+    let q = split-asks d (a .img .now) (a .first) (a .work) (a .m) (a .k) (a .width) (a .t7) o (l .j - 1) (l .e) (l .w) (l .img) (l .c) g (omega arith) (s .pre .0) in
     q .3
 
 add-split : tie.Need-add-split Inv-loop μ-loop
@@ -39,10 +39,10 @@ add-split c =
     let l = c .before .before .loop in
     let s = c .before .before .before .before in
     let a = s .args in
-    let d = s .pre .2 .0 in
-    let o = s .pre .2 .1 in
-    let g = down d (l .j) (l .j - 1) (a .k) (l .e) (l .w) (l .img) (a .counts) (l .c) (omega arith) (l .inv .2 d o) in
-    let q = split-asks d (a .img .now) (a .first) (a .work) (a .m) (a .k) (a .width) (a .t7) o (l .j - 1) (l .e) (l .w) (l .img) (a .counts) (l .c) g (omega arith) (s .pre .0) in
+    let d = s .pre .1 .0 in
+    let o = s .pre .1 .1 in
+    let g = down d (l .j) (l .j - 1) (a .k) (l .e) (l .w) (l .img) (l .c) (omega arith) (l .inv .2 d o) in
+    let q = split-asks d (a .img .now) (a .first) (a .work) (a .m) (a .k) (a .width) (a .t7) o (l .j - 1) (l .e) (l .w) (l .img) (l .c) g (omega arith) (s .pre .0) in
     omega (arith, q .1)
 
 mul-split : tie.Need-mul-split Inv-loop μ-loop
@@ -56,10 +56,10 @@ split-requires c κs =
     let l = c .before .before .loop in
     let s = c .before .before .before .before in
     let a = s .args in
-    let d = s .pre .2 .0 in
-    let o = s .pre .2 .1 in
-    let g = down d (l .j) (l .j - 1) (a .k) (l .e) (l .w) (l .img) (a .counts) (l .c) (omega arith) (l .inv .2 d o) in
-    let q = split-asks d (a .img .now) (a .first) (a .work) (a .m) (a .k) (a .width) (a .t7) o (l .j - 1) (l .e) (l .w) (l .img) (a .counts) (l .c) g (omega arith) (s .pre .0) in
+    let d = s .pre .1 .0 in
+    let o = s .pre .1 .1 in
+    let g = down d (l .j) (l .j - 1) (a .k) (l .e) (l .w) (l .img) (l .c) (omega arith) (l .inv .2 d o) in
+    let q = split-asks d (a .img .now) (a .first) (a .work) (a .m) (a .k) (a .width) (a .t7) o (l .j - 1) (l .e) (l .w) (l .img) (l .c) g (omega arith) (s .pre .0) in
     (q .0, q .1, omega arith, q .2)
 
 sub-c : tie.Need-sub-c Inv-loop μ-loop
@@ -67,9 +67,9 @@ sub-c c =
     let l = c .before .before .before .before .before .loop in
     let s = c .before .before .before .before .before .before .before in
     let a = s .args in
-    let d = s .pre .2 .0 in
-    let o = s .pre .2 .1 in
-    r-le d (a .img .now) (a .first) (a .work) (a .m) (a .k) (a .width) (a .t7) o (l .j - 1) (l .e) (l .w) (l .img) (a .counts) (l .c) (down d (l .j) (l .j - 1) (a .k) (l .e) (l .w) (l .img) (a .counts) (l .c) (omega arith) (l .inv .2 d o)) (omega arith) (s .pre .0) _ _ _ (o .ladder .at (l .j - 1) (omega arith)) (c .before .before .split .ensures)
+    let d = s .pre .1 .0 in
+    let o = s .pre .1 .1 in
+    r-le d (a .img .now) (a .first) (a .work) (a .m) (a .k) (a .width) (a .t7) o (l .j - 1) (l .e) (l .w) (l .img) (l .c) (down d (l .j) (l .j - 1) (a .k) (l .e) (l .w) (l .img) (l .c) (omega arith) (l .inv .2 d o)) (omega arith) (s .pre .0) _ _ _ (o .ladder .at (l .j - 1) (omega arith)) (c .before .before .split .ensures)
 
 mul-c : tie.Need-mul-c Inv-loop μ-loop
 mul-c c = search needs
@@ -85,27 +85,27 @@ loop-again c =
     let l = c .before .before .before .before .before .loop in
     let s = c .before .before .before .before .before .before .before in
     let a = s .args in
-    (omega arith, search needs, λ d o. dealing-on d (a .img .now) (a .first) (a .work) (a .m) (a .k) (a .width) (a .t7) o (l .j - 1) (l .e) (l .w) (l .img) (a .counts) (l .c) (down d (l .j) (l .j - 1) (a .k) (l .e) (l .w) (l .img) (a .counts) (l .c) (omega arith) (l .inv .2 d o)) (omega arith) (s .pre .0) _ _ _ (o .ladder .at (l .j - 1) (omega arith)) (c .before .before .split .ensures))
+    (omega arith, search needs, λ d o. dealing-on d (a .img .now) (a .first) (a .work) (a .m) (a .k) (a .width) (a .t7) o (l .j - 1) (l .e) (l .w) (l .img) (l .c) (down d (l .j) (l .j - 1) (a .k) (l .e) (l .w) (l .img) (l .c) (omega arith) (l .inv .2 d o)) (omega arith) (s .pre .0) _ _ _ (o .ladder .at (l .j - 1) (omega arith)) (c .before .before .split .ensures))
 
 mul-img : tie.Need-mul-img Inv-loop μ-loop
 mul-img c =
     let l = c .before .loop in
     let s = c .before .before .before in
     let a = s .args in
-    let d = s .pre .2 .0 in
-    let o = s .pre .2 .1 in
+    let d = s .pre .1 .0 in
+    let o = s .pre .1 .1 in
     let z : l .j ≡ 0 = omega arith in
-    omega (arith, dealing-ends d (a .img .now) (a .first) (a .work) (a .m) (a .k) (a .width) (a .t7) o (l .e) (l .w) (l .img) (a .counts) (l .c) (subst (λ (y : ℕ). Dealing d y (a .k) (l .e) (l .w) (l .img) (a .counts) (l .c)) z (l .inv .2 d o)) .0)
+    omega (arith, dealing-ends d (a .img .now) (a .first) (a .work) (a .m) (a .k) (a .width) (a .t7) o (l .e) (l .w) (l .img) (l .c) (subst (λ (y : ℕ). Dealing d y (a .k) (l .e) (l .w) (l .img) (l .c)) z (l .inv .2 d o)) .0)
 
 slice-write-img : tie.Need-slice-write-img Inv-loop μ-loop
 slice-write-img c =
     let l = c .before .loop in
     let s = c .before .before .before in
     let a = s .args in
-    let d = s .pre .2 .0 in
-    let o = s .pre .2 .1 in
+    let d = s .pre .1 .0 in
+    let o = s .pre .1 .1 in
     let z : l .j ≡ 0 = omega arith in
-    dealing-ends d (a .img .now) (a .first) (a .work) (a .m) (a .k) (a .width) (a .t7) o (l .e) (l .w) (l .img) (a .counts) (l .c) (subst (λ (y : ℕ). Dealing d y (a .k) (l .e) (l .w) (l .img) (a .counts) (l .c)) z (l .inv .2 d o)) .0
+    dealing-ends d (a .img .now) (a .first) (a .work) (a .m) (a .k) (a .width) (a .t7) o (l .e) (l .w) (l .img) (l .c) (subst (λ (y : ℕ). Dealing d y (a .k) (l .e) (l .w) (l .img) (l .c)) z (l .inv .2 d o)) .0
 
 same-length : tie.Need-same-length Inv-loop μ-loop
 same-length c = search needs
@@ -116,7 +116,7 @@ returns c =
     let s = c .before .before .before in
     let a = s .args in
     let z : l .j ≡ 0 = omega arith in
-    λ d o. dealing-ends d (a .img .now) (a .first) (a .work) (a .m) (a .k) (a .width) (a .t7) o (l .e) (l .w) (l .img) (a .counts) (l .c) (subst (λ (y : ℕ). Dealing d y (a .k) (l .e) (l .w) (l .img) (a .counts) (l .c)) z (l .inv .2 d o)) .1
+    λ d o. dealing-ends d (a .img .now) (a .first) (a .work) (a .m) (a .k) (a .width) (a .t7) o (l .e) (l .w) (l .img) (l .c) (subst (λ (y : ℕ). Dealing d y (a .k) (l .e) (l .w) (l .img) (l .c)) z (l .inv .2 d o)) .1
 
 pub deal-spec : {M : Type 1} → statement M
 deal-spec =

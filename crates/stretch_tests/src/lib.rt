@@ -12,19 +12,19 @@ ghost use Rattle.image_clauses.specs.Clauses.{Says, AllZero, PairOk, UpdateOk};
 use pair::Pair;
 use pair::Update;
 
-// Whether `count` words from `at` on are all zero.
+// Whether `count` words from `at` on are all zero. No word is told apart on the way: a loop that ends early cannot take several words at a time, and
+// most of an image is such words.
 pub fn zeros(img: &[u64], at: usize, count: usize) -> bool
     requires { ⌜ at + count ≤ length (now img) ⌝ }
     ensures { λ r. ⌜ Says r (AllZero (part (now (img .entry)) at count)) ⌝ }
 {
+    let mut all = 0;
     let mut j = 0;
     while j < count {
-        if img[at + j] != 0 {
-            return false;
-        }
+        all = all | img[at + j];
         j += 1;
     }
-    true
+    all == 0
 }
 
 // Whether p is a pair of an id below n, at least `low`, at most `high` and below the open bound.

@@ -1,38 +1,30 @@
--- The words left to test say the same as all of them (`Left`): a word that passes shortens them, one that fails refutes all.
+-- `stretch_tests::zeros` meets its contract: the words are gathered into one (`gathered-turn`), which is tested once.
 -- Assumes nothing.
+use Rattle.stretch_tests.proofs.Gathered.{Gathered, gathered-start, gathered-turn, gathered-says}
 use Prim.Native.Nat.{_-_, _≤_}
-use mathlib.Core.Path.{_≡_}
+use mathlib.Core.Path.{refl}
 use native.Mathlib.Omega.{arith}
 use borrow.Author.Needs.{needs}
-use Rattle.image_clauses.specs.Turns.{Left, left-start, left-turn, left-fails, left-end}
 use Rattle.stretch_tests.proofs.zeros.Statement.{statement}
 use Rattle.stretch_tests.proofs.zeros.Tie as tie
 
 abbrev Inv-loop : tie.InvT-loop
-Inv-loop img at count j₀ j = (j ≤ count) × Left (λ w. w ≡ 0) img at count j
+Inv-loop img at count all₀ j₀ all j = (j ≤ count) × Gathered img at count all j
 
 abbrev μ-loop : tie.MeasureT-loop
-μ-loop img at count j₀ j = count - j
+μ-loop img at count all₀ j₀ all j = count - j
 
 loop-holds : tie.Need-loop-holds Inv-loop μ-loop
-loop-holds c =
-    let a = c .args in
-    (search needs, left-start (λ w. w ≡ 0) (a .img .now) (a .at) (a .count))
+loop-holds c = (omega arith, gathered-start (c .args .img .now) (c .args .at) (c .args .count))
 
-add-if1 : tie.Need-add-if1 Inv-loop μ-loop
-add-if1 c = search needs
+add-all : tie.Need-add-all Inv-loop μ-loop
+add-all c = search needs
 
-mul-if1 : tie.Need-mul-if1 Inv-loop μ-loop
-mul-if1 c = search needs
+mul-all : tie.Need-mul-all Inv-loop μ-loop
+mul-all c = search needs
 
-shared-slice-read-if1 : tie.Need-shared-slice-read-if1 Inv-loop μ-loop
-shared-slice-read-if1 c = search needs
-
-returns : tie.Need-returns Inv-loop μ-loop
-returns c =
-    let a = c .before .before .before .before .args in
-    let l = c .before .before .before .loop in
-    left-fails (λ w. w ≡ 0) (a .img .now) (a .at) (a .count) (l .j) (omega arith) (omega arith) (l .inv .1) (c .if1 .taken)
+shared-slice-read-all : tie.Need-shared-slice-read-all Inv-loop μ-loop
+shared-slice-read-all c = search needs
 
 add-j : tie.Need-add-j Inv-loop μ-loop
 add-j c = search needs
@@ -42,15 +34,16 @@ loop-less c = search needs
 
 loop-again : tie.Need-loop-again Inv-loop μ-loop
 loop-again c =
-    let a = c .before .before .before .before .args in
-    let l = c .before .before .before .loop in
-    (search needs, left-turn (λ w. w ≡ 0) (a .img .now) (a .at) (a .count) (l .j) (omega arith) (omega arith) (l .inv .1) (c .if1 .left))
+    let l = c .before .before .loop in
+    let s = c .before .before .before in
+    let a = s .args in
+    (omega arith, gathered-turn (a .img .now) (a .at) (a .count) (l .all) (l .j) (s .pre) (omega arith) (l .inv .1))
 
-returns-2 : tie.Need-returns-2 Inv-loop μ-loop
-returns-2 c =
-    let a = c .before .before .args in
+returns : tie.Need-returns Inv-loop μ-loop
+returns c =
     let l = c .before .loop in
-    left-end (λ w. w ≡ 0) (a .img .now) (a .at) (a .count) (l .j) (omega arith) (l .inv .1)
+    let a = c .before .before .args in
+    gathered-says (a .img .now) (a .at) (a .count) (l .all) (l .j) (omega arith) (l .inv .1) _ refl
 
 pub zeros-spec : {M : Type 1} → statement M
 zeros-spec =
@@ -59,11 +52,10 @@ zeros-spec =
     Inv-loop
     μ-loop
     loop-holds
-    add-if1
-    mul-if1
-    shared-slice-read-if1
-    returns
+    add-all
+    mul-all
+    shared-slice-read-all
     add-j
     loop-less
     loop-again
-    returns-2)
+    returns)

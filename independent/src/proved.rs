@@ -3,11 +3,15 @@
 use crate::harness::Judged;
 #[cfg(feature = "proved_sheet")]
 use crate::harness::Reading;
+#[cfg(feature = "proved_writer")]
+use crate::harness::GUARD;
 use crate::image::Answer;
 #[cfg(feature = "proved_inner")]
 use crate::run::Queue;
 #[cfg(feature = "proved_writer")]
-use crate::writer::Record;
+use crate::writer::{Record, MOST_RECORDS};
+#[cfg(feature = "proved_writer")]
+use std::thread;
 
 extern "C" {
     fn lq_fresh(image: *mut u64, words: usize, n: u64) -> u64;
@@ -54,6 +58,16 @@ extern "C" {
         other_count: usize,
         weights: *const u64,
         weight_count: usize,
+        written: *mut u64,
+    ) -> u64;
+    #[cfg(feature = "proved_writer")]
+    fn lq_write_edges(
+        target: *mut u8,
+        length: usize,
+        n: u64,
+        source: u64,
+        edges: *const Edge,
+        count: usize,
         written: *mut u64,
     ) -> u64;
     #[cfg(feature = "proved_run")]
@@ -128,7 +142,8 @@ impl Judged for Proved {
         taken_or(number, [n, h, source])
     }
 
-    /// The records go in as three slices, which must come back unchanged.
+    /// The records go in by both calls, which must answer the same and leave
+    /// the same bytes.
     #[cfg(feature = "proved_writer")]
     fn write(
         &self,
@@ -137,42 +152,21 @@ impl Judged for Proved {
         source: u64,
         records: &[Record],
     ) -> Result<u64, u64> {
-        let parts = |part: fn(&Record) -> u64| records.iter().map(part).collect::<Vec<u64>>();
-        let mut ones = parts(|record| record.one);
-        let mut others = parts(|record| record.other);
-        let mut weights = parts(|record| record.weight);
-        let mut written = 0;
-        let number = unsafe {
-            lq_write(
-                target.as_mut_ptr(),
-                target.len(),
-                n,
-                source,
-                ones.as_mut_ptr(),
-                ones.len(),
-                others.as_mut_ptr(),
-                others.len(),
-                weights.as_mut_ptr(),
-                weights.len(),
-                &mut written,
-            )
-        };
+        let mut again = guarded(target);
+        let inside = GUARD..GUARD + target.len();
+        let written = on_usual_stack(records, || write_slices(target, n, source, records));
+        let by_edges = on_usual_stack(records, || {
+            write_edges(&mut again[inside], n, source, records)
+        });
         assert_eq!(
-            ones,
-            parts(|record| record.one),
-            "lq_write changed a lent slice"
+            by_edges, written,
+            "lq_write_edges does not answer as lq_write"
         );
-        assert_eq!(
-            others,
-            parts(|record| record.other),
-            "lq_write changed a lent slice"
+        assert!(
+            again == guarded(target),
+            "lq_write_edges does not leave the bytes that lq_write does"
         );
-        assert_eq!(
-            weights,
-            parts(|record| record.weight),
-            "lq_write changed a lent slice"
-        );
-        taken_or(number, written)
+        written
     }
 
     #[cfg(feature = "proved_run")]
@@ -208,6 +202,96 @@ fn taken_or<T>(number: u64, answer: T) -> Result<T, u64> {
         0 => Ok(answer),
         _ => Err(number),
     }
+}
+
+/// A record as the library lays it out.
+#[cfg(feature = "proved_writer")]
+#[repr(C)]
+#[derive(Clone, PartialEq, Debug)]
+struct Edge {
+    one: u64,
+    other: u64,
+    weight: u64,
+}
+
+/// The bytes with guards around them.
+#[cfg(feature = "proved_writer")]
+fn guarded(bytes: &[u8]) -> Vec<u8> {
+    let guard = [0x67; GUARD];
+    [&guard, bytes, &guard].concat()
+}
+
+/// The longest list that is taken must do with the usual 8 MiB of stack; it gets
+/// just that, on a thread of its own.
+#[cfg(feature = "proved_writer")]
+fn on_usual_stack<T: Send>(records: &[Record], call: impl FnOnce() -> T + Send) -> T {
+    if records.len() != MOST_RECORDS {
+        return call();
+    }
+    let thread = thread::Builder::new().stack_size(8 << 20);
+    thread::scope(|scope| thread.spawn_scoped(scope, call).unwrap().join().unwrap())
+}
+
+/// By three slices, which must come back unchanged.
+#[cfg(feature = "proved_writer")]
+fn write_slices(target: &mut [u8], n: u64, source: u64, records: &[Record]) -> Result<u64, u64> {
+    let parts = |part: fn(&Record) -> u64| records.iter().map(part).collect::<Vec<u64>>();
+    let slices = || {
+        [
+            parts(|record| record.one),
+            parts(|record| record.other),
+            parts(|record| record.weight),
+        ]
+    };
+    let [ones, others, weights] = &mut slices();
+    let mut written = 0;
+    let number = unsafe {
+        lq_write(
+            target.as_mut_ptr(),
+            target.len(),
+            n,
+            source,
+            ones.as_mut_ptr(),
+            ones.len(),
+            others.as_mut_ptr(),
+            others.len(),
+            weights.as_mut_ptr(),
+            weights.len(),
+            &mut written,
+        )
+    };
+    assert_eq!(
+        [ones, others, weights],
+        slices().each_mut(),
+        "lq_write changed a lent slice"
+    );
+    taken_or(number, written)
+}
+
+/// By one slice of records, which must come back unchanged.
+#[cfg(feature = "proved_writer")]
+fn write_edges(target: &mut [u8], n: u64, source: u64, records: &[Record]) -> Result<u64, u64> {
+    let edge = |record: &Record| Edge {
+        one: record.one,
+        other: record.other,
+        weight: record.weight,
+    };
+    let mut edges: Vec<Edge> = records.iter().map(edge).collect();
+    let before = edges.clone();
+    let mut written = 0;
+    let number = unsafe {
+        lq_write_edges(
+            target.as_mut_ptr(),
+            target.len(),
+            n,
+            source,
+            edges.as_mut_ptr(),
+            edges.len(),
+            &mut written,
+        )
+    };
+    assert_eq!(edges, before, "lq_write_edges changed the lent records");
+    taken_or(number, written)
 }
 
 /// The proved inner calls on a sound image, for the bench.

@@ -11,6 +11,7 @@ ghost use Rattle.export.specs.Numbered.{numberIn, Numbered};
 ghost use Rattle.sheet.specs.Answer.{acceptOf};
 ghost use Rattle.export.specs.RunNumbered.{RunGiven, RunAnswered};
 ghost use Rattle.sheet_records.specs.Judged.{edgesOf};
+ghost use Rattle.sheet_writer.specs.Answers.{recordsOf};
 ghost use Rattle.export.specs.WriteNumbered.{WriteGiven, WriteAnswered};
 ghost use Rattle.export.specs.SheetNumbered.{SheetGiven};
 ghost use Rattle.export.specs.MinNumbered.{MinGiven, MinAnswered, InnerAnswered};
@@ -18,6 +19,7 @@ use level_queue::Answer;
 use level_queue::MinAnswer;
 use run::RunAnswer;
 use sheet::Acceptance;
+use sheet_writer::Edge;
 use sheet_writer::Written;
 
 // The number that an answer goes out by.
@@ -216,5 +218,20 @@ pub extern "C" fn lq_write(
     ensures { λ r. ⌜ WriteAnswered r n source (edgesOf (now (ones .entry)) (now (others .entry)) (now (weights .entry))) (now (target .entry)) (now (target .exit)) (now (length .entry)) (now (length .exit)) ⌝ }
 {
     let a = sheet_writer::write_slices(target, n, source, ones, others, weights);
+    give_length(a, length)
+}
+
+// The same from a slice of records, three words each.
+#[no_mangle]
+pub extern "C" fn lq_write_edges(
+    target: &mut [u8],
+    n: u64,
+    source: u64,
+    edges: &[Edge],
+    length: &mut u64,
+) -> u64
+    ensures { λ r. ⌜ WriteAnswered r n source (recordsOf (now (edges .entry))) (now (target .entry)) (now (target .exit)) (now (length .entry)) (now (length .exit)) ⌝ }
+{
+    let a = sheet_writer::write(target, n, source, edges);
     give_length(a, length)
 }

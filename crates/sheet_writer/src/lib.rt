@@ -22,7 +22,8 @@ const MIDDLE: usize = 32768;
 
 const LARGE: usize = 524288;
 
-// "edge records (two ends, one weight)"
+// "edge records (two ends, one weight)"; laid out as C does, since the C face takes a slice of them
+#[repr(C)]
 pub struct Edge {
     pub one: u64,
     pub other: u64,

@@ -148,14 +148,72 @@ pub fn drag(n: u64) -> Workload {
     }
 }
 
+/// What a tracer asks of the program `queue`, so many calls: one run after
+/// another over a grid of 32 x 32 with 8 neighbours, each from a point of its
+/// own, in which the artist takes out a pixel now and then.
+pub fn tracing(calls: usize) -> Workload {
+    let bytes = grid_sheet(32, 8, 1, 255);
+    let mut sheet = accept(&bytes).expect("a good sheet");
+    let n = sheet.n as u64;
+    let mut tracer = Tracer {
+        recorder: Recorder {
+            queue: OnHeap::new(n),
+            steps: Vec::new(),
+        },
+        random: Random::new(n),
+        n,
+    };
+    while tracer.recorder.steps.len() < calls {
+        sheet.source = tracer.random.index(sheet.n);
+        settle_all(&sheet, &mut vec![0; sheet.n], &mut tracer);
+    }
+    let mut steps = tracer.recorder.steps;
+    steps.truncate(calls);
+    Workload {
+        name: "tracing",
+        n,
+        steps,
+    }
+}
+
+/// A queue from which some id is deleted before one Delete-Min in eight.
+struct Tracer {
+    recorder: Recorder,
+    random: Random,
+    n: u64,
+}
+
+impl Queue for Tracer {
+    fn decrease(&mut self, id: u64, key: u64) {
+        self.recorder.decrease(id, key);
+    }
+
+    fn delete(&mut self, id: u64) {
+        self.recorder.delete(id);
+    }
+
+    fn delete_min(&mut self) -> Option<(u64, u64)> {
+        if self.random.one_in(8) {
+            let id = self.random.below(self.n);
+            self.recorder.delete(id);
+        }
+        self.recorder.delete_min()
+    }
+}
+
 // ---------------------------------------------------------------------------
 // Sheets to run on
 
 /// A square grid; the source is its middle.
 pub fn grid_sheet(side: u32, neighbours: u32, least: u64, most: u64) -> Vec<u8> {
-    let ends = generate_sheets::grid(side, side, neighbours);
-    let middle = side / 2 * side + side / 2;
-    weighted_sheet(side * side, ends, middle, least, most)
+    oblong_sheet([side, side], neighbours, least, most)
+}
+
+/// A grid of this width and height; the source is its middle.
+pub fn oblong_sheet([width, height]: [u32; 2], neighbours: u32, least: u64, most: u64) -> Vec<u8> {
+    let ends = generate_sheets::grid(width, height, neighbours);
+    let middle = height / 2 * width + width / 2;
+    weighted_sheet(width * height, ends, middle, least, most)
 }
 
 /// Random edges, so many half-edges in all.
@@ -175,4 +233,26 @@ fn weighted_sheet(n: u32, ends: Vec<[u32; 2]>, source: u32, least: u64, most: u6
     };
     let edges = ends.into_iter().map(edge).collect();
     Draft::of(&Graph { n, edges }, source).bytes()
+}
+
+#[cfg(test)]
+mod tests {
+    use super::*;
+    use crate::image::{inner_fresh, need, Taking};
+    use crate::run::OnImage;
+
+    #[test]
+    fn tracing_has_all_kinds_of_calls_and_the_queues_answers() {
+        let list = tracing(5_000);
+        assert_eq!(list.steps.len(), 5_000);
+        let count = |kind: fn(&Step) -> bool| list.steps.iter().filter(|&step| kind(step)).count();
+        assert!(count(|step| matches!(step, Step::Decrease(..))) > 2_000);
+        assert!(count(|step| matches!(step, Step::Delete(_))) > 100);
+        assert!(count(|step| matches!(step, Step::Min)) > 1_000);
+        let image = &mut vec![0; need(list.n)];
+        inner_fresh(image, list.n);
+        let taking = Taking::Either;
+        let answers = play(&list.steps, &mut OnImage { image, taking });
+        assert_eq!(answers, play(&list.steps, &mut OnHeap::new(list.n)));
+    }
 }

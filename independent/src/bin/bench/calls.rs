@@ -5,7 +5,11 @@ use independent::generate::Random;
 use independent::harness::Judged;
 use independent::image::{self, need};
 use independent::numbers::*;
+#[cfg(feature = "proved_inner")]
+use independent::proved::Inner;
 use independent::reading::plain_reading;
+#[cfg(feature = "proved_inner")]
+use independent::run::Queue;
 use independent::sound::{verdict, Verdict};
 use std::hint::black_box;
 
@@ -91,16 +95,28 @@ fn outward_decrease(n: u64) {
     });
 }
 
-/// The inner push has no C function: the independent time stands alone.
 fn inner_push(n: u64) {
+    let name = format!("inner push, n = {n}");
     let image = half_full(n);
     let top = stack_top(&image);
     let mut mine = |image: &mut [u64]| {
         black_box(image::inner_decrease(black_box(image), 5, 9));
         pop(image, top);
     };
-    let [least] = least_times(&image, [&mut mine]);
-    print_row(&format!("inner push, n = {n}"), least, None);
+    print_beside(&name, &image, &mut mine, proved_push(top));
+}
+
+#[cfg(feature = "proved_inner")]
+fn proved_push(top: usize) -> Option<Box<Work<'static>>> {
+    Some(Box::new(move |image| {
+        Inner(black_box(image)).decrease(5, 9);
+        pop(image, top);
+    }))
+}
+
+#[cfg(not(feature = "proved_inner"))]
+fn proved_push(_top: usize) -> Option<Box<Work<'static>>> {
+    None
 }
 
 /// Takes the last update away again, so that every call meets the same image.
@@ -160,11 +176,14 @@ fn with_proved(
     mine: &mut Work,
     theirs: impl FnOnce(&'static dyn Judged) -> Box<Work<'static>>,
 ) {
-    let Some(side) = proved() else {
+    print_beside(name, image, mine, proved().map(theirs));
+}
+
+fn print_beside(name: &str, image: &[u64], mine: &mut Work, theirs: Option<Box<Work<'static>>>) {
+    let Some(mut theirs) = theirs else {
         let [least] = least_times(image, [mine]);
         return print_row(name, least, None);
     };
-    let mut theirs = theirs(side);
     let [least, proved] = least_times(image, [mine, &mut *theirs]);
     print_row(name, least, Some(proved));
 }

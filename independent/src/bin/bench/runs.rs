@@ -1,10 +1,13 @@
 //! Whole runs, from the bytes of a sheet to its distances.
 
-use crate::timing::{least_times, milliseconds, ratio, Side, Watch, ROUNDS};
+use crate::timing::{least_times, milliseconds, ratio, repeated, Clock, Side, ROUNDS};
 use independent::image::need;
-use independent::run::{self, by_heap};
-use independent::sheet::accept;
+use independent::numbers::{id_of, key_of, pair};
+use independent::run::{self, by_heap, UNREACHED};
+use independent::sheet::{accept, Sheet};
 use independent::workload::{grid_sheet, sparse_sheet};
+use std::cmp::Reverse;
+use std::collections::BinaryHeap;
 use std::hint::black_box;
 
 #[cfg(any(feature = "proved_run", feature = "proved_sheet"))]
@@ -14,11 +17,11 @@ use independent::proved::Proved;
 
 pub fn print() {
     println!("Whole runs: milliseconds a run, least of {ROUNDS} rounds");
-    println!("a: independent, c: proved, d: BinaryHeap; all accept the sheet first,");
-    println!("which alone takes a* and c*, and that share of a and c");
+    println!("a: independent, c: proved, d: BinaryHeap of (distance, vertex), e: BinaryHeap of both in a word;");
+    println!("all accept the sheet first, which alone takes a* and c*, and that share of a and c");
     println!(
-        "{:34}{:>10}{:>10}{:>10}{:>7}{:>7}{:>7}{:>9}{:>8}{:>9}{:>8}",
-        "", "a", "c", "d", "c/a", "c/d", "a/d", "a*", "share", "c*", "share"
+        "{:38}{:>10}{:>10}{:>10}{:>10}{:>7}{:>7}{:>7}{:>9}{:>8}{:>9}{:>8}",
+        "", "a", "c", "d", "e", "c/a", "c/d", "c/e", "a*", "share", "c*", "share"
     );
     for neighbours in [4, 8] {
         for (weights, least, most) in [
@@ -42,11 +45,9 @@ fn print_run(name: &str, bytes: &[u8]) {
     let wanted = by_heap(&accept(bytes).expect("a good sheet"));
     let mut sides = vec![
         run_side(bytes, &wanted, run::distances),
-        repeated(|| {
-            let sheet = accept(black_box(bytes)).expect("a good sheet");
-            black_box(by_heap(&sheet));
-        }),
-        repeated(|| {
+        heap_side(bytes, &wanted, by_heap),
+        heap_side(bytes, &wanted, by_packed_heap),
+        repeated(Clock::Thread, || {
             black_box(accept(black_box(bytes)).is_ok());
         }),
     ];
@@ -55,7 +56,7 @@ fn print_run(name: &str, bytes: &[u8]) {
     let accepts = sides.len();
     sides.extend(proved_accept(bytes));
     let times = least_times(&mut sides);
-    let (a, d, a_accept) = (times[0], times[1], times[2]);
+    let (a, d, e, a_accept) = (times[0], times[1], times[2], times[3]);
     let c = times[runs..accepts].first().copied();
     let c_accept = times[accepts..].first().copied();
     let share = |part: Option<f64>, whole: Option<f64>| match (part, whole) {
@@ -63,36 +64,19 @@ fn print_run(name: &str, bytes: &[u8]) {
         _ => "-".to_string(),
     };
     println!(
-        "{name:34}{:>10}{:>10}{:>10}{:>7}{:>7}{:>7}{:>9}{:>8}{:>9}{:>8}",
+        "{name:38}{:>10}{:>10}{:>10}{:>10}{:>7}{:>7}{:>7}{:>9}{:>8}{:>9}{:>8}",
         milliseconds(Some(a)),
         milliseconds(c),
         milliseconds(Some(d)),
+        milliseconds(Some(e)),
         ratio(c, a),
         ratio(c, d),
-        ratio(Some(a), d),
+        ratio(c, e),
         milliseconds(Some(a_accept)),
         share(Some(a_accept), Some(a)),
         milliseconds(c_accept),
         share(c_accept, c),
     );
-}
-
-/// A round of one side lasts about so long at least.
-const ROUND_NANOSECONDS: f64 = 5e6;
-
-/// The same work often enough to read a clock by.
-fn repeated<'a>(mut work: impl FnMut() + 'a) -> Side<'a> {
-    let start = Watch::start();
-    work();
-    let once = start.nanoseconds().max(1.0);
-    let times = (ROUND_NANOSECONDS / once).clamp(1.0, 1e4) as u32;
-    Box::new(move || {
-        let start = Watch::start();
-        for _ in 0..times {
-            work();
-        }
-        start.nanoseconds() / f64::from(times)
-    })
 }
 
 /// Its distances must be the least ones.
@@ -105,9 +89,43 @@ fn run_side<'a>(
     let mut image = vec![0; need(wanted.len() as u64)];
     assert!(run(bytes, &mut distances, &mut image).is_ok());
     assert_eq!(distances, wanted);
-    repeated(move || {
+    repeated(Clock::Thread, move || {
         black_box(run(black_box(bytes), &mut distances, &mut image).is_ok());
     })
+}
+
+/// So must a heap's be.
+fn heap_side<'a>(
+    bytes: &'a [u8],
+    wanted: &[u64],
+    run: impl Fn(&Sheet) -> Vec<u64> + 'a,
+) -> Side<'a> {
+    let run = move || run(&accept(black_box(bytes)).expect("a good sheet"));
+    assert_eq!(run(), wanted);
+    repeated(Clock::Thread, move || {
+        black_box(run());
+    })
+}
+
+/// `by_heap` with distance and vertex in one word, as a pair.
+fn by_packed_heap(sheet: &Sheet) -> Vec<u64> {
+    let mut distances = vec![UNREACHED; sheet.n];
+    distances[sheet.source] = 0;
+    let mut heap = BinaryHeap::from([Reverse(pair(0, sheet.source as u64))]);
+    while let Some(Reverse(smallest)) = heap.pop() {
+        let (vertex, distance) = (id_of(smallest) as usize, key_of(smallest));
+        if distance > distances[vertex] {
+            continue;
+        }
+        for (target, weight) in sheet.row(vertex) {
+            let through_here = distance + weight;
+            if through_here < distances[target] {
+                distances[target] = through_here;
+                heap.push(Reverse(pair(through_here, target as u64)));
+            }
+        }
+    }
+    distances
 }
 
 #[cfg(feature = "proved_run")]
@@ -125,7 +143,7 @@ fn proved_run<'a>(_bytes: &'a [u8], _wanted: &'a [u64]) -> Option<Side<'a>> {
 
 #[cfg(feature = "proved_sheet")]
 fn proved_accept(bytes: &[u8]) -> Option<Side<'_>> {
-    Some(repeated(|| {
+    Some(repeated(Clock::Thread, || {
         black_box(Proved.accept(black_box(bytes)).is_ok());
     }))
 }

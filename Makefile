@@ -11,6 +11,7 @@ run: setup
 # The gate: proves every crate from nothing, tries every must-fail edit, runs each program. Its last line is 'N passed, 0 failed'.
 test: setup
 	@scripts/check-docs
+	@rt fmt --check
 	@scripts/compare
 	@scripts/faces
 	@scripts/run --test

@@ -7,18 +7,25 @@ use native.Mathlib.Omega.{arith}
 use native.Mathlib.Nat.{pow-suc}
 use lib.ListN.{length, getD, replicate, length-append, length-replicate, List·getD-append}
 use lib.Seq.{sets}
+use lib.Pow.{pow-pos}
 use Rattle.lists.specs.Put.{part}
 use Rattle.rules.specs.Update.{Update}
 use Rattle.rules.specs.Heap.{Level, waiting}
 use Rattle.layout.specs.Words.{words}
 use Rattle.plain.specs.Lists.{pad}
-use Rattle.layout.specs.Image.{headWords, rowWords, elementWords, stack, stackWords, layOut}
+use Rattle.layout.specs.Image.{headWords, rowWords, elementWords, stack, stackWords, layOut, Roomy}
 use Rattle.rules.specs.Rebuild.{addBehind}
-use Rattle.at_work.specs.AtWork.{atWork, Roomy, levelPlace, stackPlace, workPlace}
+use Rattle.at_work.specs.AtWork.{atWork, levelPlace, stackPlace, workPlace}
 use Rattle.lists.specs.Blocks.{part-at, put-at, zeros-append}
-use Rattle.layout.proofs.Image.{length-pad, length-words, words-append}
-use Rattle.rules.proofs.Refill.{pos-pow}
-use Rattle.at_work.proofs.Blocks.{pad-pad, length-area}
+use Rattle.layout.proofs.Image.{length-pad, length-words, words-append, length-area}
+
+-- a list padded in two steps
+pad-pad : (c k : ℕ) (xs ys : List ℕ) → length ys ≤ c → length xs + c ≤ k → (xs ++ pad c ys) ++ replicate (k - (length xs + c)) 0 ≡ pad k (xs ++ ys)
+pad-pad c k xs ys h g =
+    let l : length (xs ++ ys) ≡ length xs + length ys = length-append xs ys in
+    let z : replicate {A = ℕ} (c - length ys) 0 ++ replicate (k - (length xs + c)) 0 ≡ replicate (k - length (xs ++ ys)) 0 =
+    zeros-append (c - length ys) (k - (length xs + c)) (k - length (xs ++ ys)) (omega arith) in
+    rw (← z) (simp append-assoc)
 
 module _ (n L : ℕ) (top rest : List ℕ) where
   abbrev t : ℕ
@@ -42,7 +49,7 @@ module _ (n L : ℕ) (top rest : List ℕ) where
       -- before the stack; before the work elementWords
       low : length (top ++ (Z ++ elementWords i ls)) ≡ stackPlace t L
       low =
-          omega (arith, area-length, pos-pow i, length-append top (Z ++ elementWords i ls), length-append Z (elementWords i ls), length-replicate {A = ℕ} (2 ^ i - 1) 0)
+          omega (arith, area-length, pow-pos i, length-append top (Z ++ elementWords i ls), length-append Z (elementWords i ls), length-replicate {A = ℕ} (2 ^ i - 1) 0)
 
       lower : length ((top ++ (Z ++ elementWords i ls)) ++ pad (stackWords n) S) ≡ workPlace t L n
       lower = omega (arith, low, length-append (top ++ (Z ++ elementWords i ls)) (pad (stackWords n) S), length-pad (stackWords n) S stack-length)
@@ -153,18 +160,6 @@ module _ (n L : ℕ) (top rest : List ℕ) where
           let r : atWork n top rest i ls ps F ≡ A ++ (pad n F ++ rest) = simp append-assoc in
           rw (e, r) (put-at A (pad n E) (pad n F) rest (workPlace t L n) lower (length-pad n E few ∙ sym (length-pad n F h)))
 
-    -- elements stored into an empty work elementWords
-    pub work-fill : (ps : List Update) (F : List ℕ) → length (stack ls) + length ps ≤ stackWords n → length F ≤ n
-        → sets (atWork n top rest i ls ps []) (workPlace t L n) F ≡ atWork n top rest i ls ps F
-    unfolding atWork
-    work-fill ps F room h =
-        let A = (top ++ (Z ps [] room (omega arith) ++ elementWords i ls)) ++ pad (stackWords n) (stack ls ++ words ps) in
-        let R : List ℕ = replicate (n - length F) 0 in
-        let z : replicate {A = ℕ} (length F) 0 ++ R ≡ replicate (n - 0) 0 = zeros-append (length F) (n - length F) (n - 0) (omega arith) in
-        let e : atWork n top rest i ls ps [] ≡ A ++ (replicate (length F) 0 ++ (R ++ rest)) = rw (← z) (simp append-assoc) in
-        let r : atWork n top rest i ls ps F ≡ A ++ (F ++ (R ++ rest)) = simp append-assoc in
-        rw (e, r) (put-at A (replicate (length F) 0) F (R ++ rest) (workPlace t L n) (lower ps [] room (omega arith)) (length-replicate {A = ℕ} (length F) 0))
-
   -- ---- ONE LEVEL
   module _ (i : ℕ) (l : Level) (ls : List Level) (fits : length (l .elements) ≤ 2 ^ i) (ps : List Update) (E : List ℕ) where
     abbrev El : List ℕ
@@ -191,7 +186,7 @@ module _ (n L : ℕ) (top rest : List ℕ) where
         let C = elementWords (suc i) ls ++ (pad (stackWords n) (stack ls ++ words (l .updates ++ ps)) ++ (pad n E ++ rest)) in
         let e : atWork n top rest i (l ∷ ls) ps E ≡ A ++ (El ++ (Q ++ C)) = rw s (simp append-assoc) in
         let z : Z₀ ++ (O ++ Q) ≡ replicate (2 ^ suc i - 1) 0 =
-        ap (λ (k : List ℕ). Z₀ ++ k) (zeros-append (length El) (2 ^ i - length El) (2 ^ i) (omega arith)) ∙ zeros-append (2 ^ i - 1) (2 ^ i) (2 ^ suc i - 1) (omega (arith, pow-suc 2 i, pos-pow i)) in
+        ap (λ (k : List ℕ). Z₀ ++ k) (zeros-append (length El) (2 ^ i - length El) (2 ^ i) (omega arith)) ∙ zeros-append (2 ^ i - 1) (2 ^ i) (2 ^ suc i - 1) (omega (arith, pow-suc 2 i, pow-pos i)) in
         rw (
           e,
           put-at A El O (Q ++ C) (levelPlace t i) (length-append top Z₀ ∙ omega (arith, length-replicate {A = ℕ} (2 ^ i - 1) 0)) (sym (length-replicate {A = ℕ} (length El) 0)),
@@ -209,7 +204,7 @@ module _ (n L : ℕ) (top rest : List ℕ) where
       let Q : List ℕ = replicate (2 ^ j - length G) 0 in
       let C = elementWords (suc j) ls ++ (pad (stackWords n) (stack ls ++ words ps) ++ (pad n E ++ rest)) in
       let z : Z₀ ++ (O ++ Q) ≡ replicate (2 ^ suc j - 1) 0 =
-      ap (λ (k : List ℕ). Z₀ ++ k) (zeros-append (length G) (2 ^ j - length G) (2 ^ j) (omega arith)) ∙ zeros-append (2 ^ j - 1) (2 ^ j) (2 ^ suc j - 1) (omega (arith, pow-suc 2 j, pos-pow j)) in
+      ap (λ (k : List ℕ). Z₀ ++ k) (zeros-append (length G) (2 ^ j - length G) (2 ^ j) (omega arith)) ∙ zeros-append (2 ^ j - 1) (2 ^ j) (2 ^ suc j - 1) (omega (arith, pow-suc 2 j, pow-pos j)) in
       let e : atWork n top rest (suc j) ls ps E ≡ A ++ (O ++ (Q ++ C)) = rw (← z) (simp append-assoc) in
       let s : stack ls ++ [] ≡ stack ls = append-nil (stack ls) in
       let r : atWork n top rest j (record { bound = c; elements = G; updates = [] } ∷ ls) ps E ≡ A ++ (G ++ (Q ++ C)) = rw s (simp append-assoc) in

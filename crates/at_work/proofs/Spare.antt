@@ -1,8 +1,8 @@
 -- Where the way down ends, the stack has room for as many words as the level has elements: stored pairs are at most n more than Deletes.
 -- Assumes nothing.
 use Prim.Native.Nat.{ℕ, suc, _+_, _*_, _≤_}
-use mathlib.Core.Path.{_≡_, refl, ap}
-use mathlib.Core.List.{List, [], _∷_, _++_}
+use mathlib.Core.Path.{_≡_}
+use mathlib.Core.List.{List, _++_}
 use native.Mathlib.Omega.{arith}
 use lib.ListN.{length, length-append}
 use Rattle.rules.specs.Update.{Held, absent, Update, reads, waits, stored, deletes}
@@ -18,7 +18,7 @@ use Rattle.plain.proofs.Every.{every-append}
 use Rattle.rules.proofs.Descent.{Stopped}
 use Rattle.rules.proofs.Spread.{ordered-cells}
 use Rattle.rules.proofs.Refill.{valid-stores}
-use Rattle.rules.proofs.Tally.{tally-append, stores-wait}
+use Rattle.rules.proofs.Tally.{tally-append, stores-wait, length-stores}
 use Rattle.rules.proofs.Queue.{chain-valid}
 use Rattle.rules.proofs.Room.{lane-room, sum-le, lane-sum, split-kinds, deletes-wait}
 use Rattle.layout.proofs.Image.{stack-le}
@@ -34,10 +34,6 @@ entries-room n us v o w =
       split-kinds us,
       deletes-wait us,
     )
-
-length-stores : (E : List ℕ) → length (stores E) ≡ length E
-length-stores [] = refl
-length-stores (p ∷ E) = ap suc (length-stores E)
 
 -- THE STACK'S FREE END HAS ROOM FOR THE LEVEL'S ELEMENTS
 pub spare : (n : ℕ) (m : ℕ → Held) (s : Stop) → Stopped (Ends n) n m s → tally waits (reading (s .deeper)) + tally waits (s .passed) ≤ n

@@ -1,11 +1,11 @@
 -- The image while Delete-Min works: one shape from the first level visited to the last word stored.
---   atWork      the words of it            Roomy    each level has room for its elements
+--   atWork                                 the words of it
 --   levelPlace, stackPlace, workPlace      where things stand behind the header's words
 -- Not here: the image between calls (Rattle.layout.specs.Image). What a read or a store at each place does are the laws of proofs/Places.antt.
 -- Assumes nothing.
-use Prim.Native.Nat.{ℕ, suc, _+_, _-_, _^_, _≤_}
-use mathlib.Core.List.{List, [], _∷_, _++_}
-use lib.ListN.{length, replicate}
+use Prim.Native.Nat.{ℕ, _+_, _-_, _^_}
+use mathlib.Core.List.{List, _++_}
+use lib.ListN.{replicate}
 use Rattle.plain.specs.Lists.{pad}
 use Rattle.rules.specs.Update.{Update}
 use Rattle.rules.specs.Heap.{Level}
@@ -18,11 +18,6 @@ use Rattle.layout.specs.Image.{elementWords, stack, stackWords}
 unfoldable pub atWork : ℕ → List ℕ → List ℕ → ℕ → List Level → List Update → List ℕ → List ℕ
 atWork n top rest i ls ps E =
     top ++ (replicate (2 ^ i - 1) 0 ++ (elementWords i ls ++ (pad (stackWords n) (stack ls ++ words ps) ++ (pad n E ++ rest))))
-
--- "level i .. has 2^i words"
-abbrev pub Roomy : ℕ → List Level → Type 0
-Roomy i [] = Unit {0}
-Roomy i (l ∷ ls) = (length (l .elements) ≤ 2 ^ i) × Roomy (suc i) ls
 
 -- level i's elements, the stack and the work area, behind t words, for L levels and n ids
 abbrev pub levelPlace : ℕ → ℕ → ℕ

@@ -14,8 +14,7 @@ use Rattle.rules.specs.Heap.{Level, stores}
 use Rattle.rules.specs.Rebuild.{smallest, addBehind}
 use Rattle.rules.specs.Cuts.{cut, spread, doubles, refillCuts}
 use Rattle.rules.proofs.Tally.{spread-length}
-use Rattle.layout.specs.Image.{stack}
-use Rattle.at_work.specs.AtWork.{Roomy}
+use Rattle.layout.specs.Image.{stack, Roomy}
 
 stack-spread : (c : ℕ) (E : List ℕ) (f j d : ℕ) (D : List Level) → stack (spread doubles c E f j d ++ D) ≡ stack D
 stack-spread c E f j zero D = refl

@@ -11,27 +11,25 @@ use borrow.Author.Tests.{le-leb, lt-leb}
 use lib.Dec.{ltb}
 use lib.ListN.{length, getD, replicate, length-append}
 use lib.Seq.{sets, length-sets}
-use Rattle.rules.specs.Pair.{levels}
+use Rattle.rules.specs.Pair.{levels, ROWS}
 use Rattle.rules.specs.Update.{Update}
 use Rattle.rules.specs.Heap.{stores, Level, waiting}
 use Rattle.rules.specs.Firm.{Chain, Ends, Firm}
 use Rattle.rules.specs.Step.{Stop}
 use Rattle.rules.specs.Rebuild.{smallest, addBehind, rebuilt}
 use Rattle.rules.specs.Cuts.{cut, spread, doubles, refillCuts, restCuts, rebuiltCuts}
-use Rattle.rules.proofs.Tally.{spread-length}
+use Rattle.rules.proofs.Tally.{spread-length, rebuilt-waits-last, rebuilt-waits-on}
 use Rattle.rules.proofs.Refill.{cut-last}
 use Rattle.rules.proofs.Dealing.{refill-cuts, rest-cuts}
 use Rattle.rules.proofs.Soundness.{sound-firm}
 use Rattle.layout.specs.Words.{words}
-use Rattle.layout.specs.Image.{HEAD, ROW, elementsFrom, stack, stackWords, layOut}
-use Rattle.layout.proofs.Image.{length-words}
+use Rattle.layout.specs.Image.{HEAD, ROW, elementsFrom, stack, stackWords, layOut, Roomy}
+use Rattle.layout.proofs.Image.{length-words, roomy}
 use Rattle.header.specs.declared.Header.{Header}
-use Rattle.header.specs.Record.{ROWS, wordAt, columnOf, headerUpto, wordsUpto}
+use Rattle.header.specs.Record.{wordAt, columnOf, headerUpto, wordsUpto}
 use Rattle.header.proofs.Columns.{column-length, column-at}
-use Rattle.at_work.specs.AtWork.{atWork, Roomy, stackPlace, workPlace}
-use Rattle.at_work.proofs.Blocks.{roomy}
+use Rattle.at_work.specs.AtWork.{atWork, stackPlace, workPlace}
 use Rattle.at_work.proofs.Places.{working-length, passed-store, added-on, top-word}
-use Rattle.at_work.proofs.Waits.{waits-last, waits-on}
 use Rattle.descent.specs.declared.Halt.{Halt}
 use Rattle.descent.specs.Landed.{Rows}
 use Rattle.rows_after.specs.Rows.{RowsAfter, MoreFits}
@@ -228,8 +226,8 @@ module _ {d : Site} {xs : List ℕ} {r : Halt} {q : Refilled} (f : Filled d xs r
   waits-are = go (s .deeper) refl
     where
       go : (ls : List Level) → s .deeper ≡ ls → on .waiting ≡ waiting (rebuiltCuts s)
-      go [] z = rw (on-last z) (sym (waits-last s z))
-      go (l ∷ ls) z = rw (on-inner l ls z) (omega (arith, waits-on s (omega (arith, ap length z)), o .landed .ended))
+      go [] z = rw (on-last z) (sym (rebuilt-waits-last s z))
+      go (l ∷ ls) z = rw (on-inner l ls z) (omega (arith, rebuilt-waits-on s l ls z, o .landed .ended))
 
   -- ---- the header is stored
   module _ {g : Header} (a : RowsAfter h g (q .cuts) (q .counts) (r .level) (q .bound) (on .next) (on .added) (on .waiting)) where

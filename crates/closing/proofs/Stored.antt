@@ -4,14 +4,14 @@
 -- Assumes nothing.
 use Prim.Native.Nat.{ℕ, _+_, _*_}
 use mathlib.Core.Path.{_≡_, refl, sym, ap, _∙_}
-use mathlib.Core.List.{List, [], _∷_, _++_, append-assoc}
+use mathlib.Core.List.{List, [], _++_, append-assoc}
 use native.Mathlib.Omega.{arith}
 use lib.ListN.{length, take, drop, take-append-drop, length-drop, length-append}
 use lib.Seq.{sets}
 use Rattle.rules.specs.Pair.{levels}
 use Rattle.rules.specs.Heap.{Level, waiting}
 use Rattle.layout.specs.Image.{HEAD, ROW, elementsFrom, stackFrom, workFrom, headWords, rowWords, layOut}
-use Rattle.layout.proofs.Image.{length-rows}
+use Rattle.layout.proofs.Image.{length-rows, rows-append}
 use Rattle.header.specs.declared.Header.{Header}
 use Rattle.header.specs.Record.{wordsUpto}
 use Rattle.at_work.specs.AtWork.{atWork}
@@ -26,10 +26,6 @@ pub record Numbers (g : Header) (n w : ℕ) : Type 0 where
   pub elements-from : g .«elements_at» ≡ elementsFrom (levels n)
   pub stack-from : g .«stack_at» ≡ stackFrom (levels n)
   pub work-from : g .«work_at» ≡ workFrom n (levels n)
-
-rows-of-both : (ks ls : List Level) → rowWords (ks ++ ls) ≡ rowWords ks ++ rowWords ls
-rows-of-both [] ls = refl
-rows-of-both (k ∷ ks) ls = ap (λ (x : List ℕ). k .bound ∷ length (k .elements) ∷ length (k .updates) ∷ x) (rows-of-both ks ls)
 
 -- the rows of ks are stored, those of the levels behind them stand already
 module _ (n : ℕ) (g : Header) (ks ls : List Level) (size : length ks + length ls ≡ levels n) (numbers : Numbers g n (waiting (ks ++ ls))) (rows : Says g 0 ks) where
@@ -55,5 +51,5 @@ module _ (n : ℕ) (g : Header) (ks ls : List Level) (size : length ks + length 
       ap (λ (x : List ℕ). sets (atWork n x rest 0 (ks ++ ls) [] []) 0 (wordsUpto g m)) split
       ∙ ap (sets (atWork n (take A top ++ rowWords ls) rest 0 (ks ++ ls) [] []) 0) words-are
       ∙ top-store n (take A top) new (rowWords ls) rest (ks ++ ls) same
-      ∙ ap (λ (x : List ℕ). atWork n x rest 0 (ks ++ ls) [] []) (append-assoc (headWords n w) (rowWords ks) (rowWords ls) ∙ ap (λ (x : List ℕ). headWords n w ++ x) (sym (rows-of-both ks ls)))
+      ∙ ap (λ (x : List ℕ). atWork n x rest 0 (ks ++ ls) [] []) (append-assoc (headWords n w) (rowWords ks) (rowWords ls) ∙ ap (λ (x : List ℕ). headWords n w ++ x) (sym (rows-append ks ls)))
       ∙ sym (lay-out-at-work n (ks ++ ls) rest)

@@ -2,20 +2,20 @@
 --   fresh-rows   what a fresh header's columns say        cleared   the words before the header is stored        wiped   the image
 -- Assumes nothing.
 use Prim.Native.Nat.{ℕ, zero, suc, _+_, _-_, _*_, _<_, _≤_}
-use mathlib.Core.Path.{_≡_, refl, sym, ap, _∙_}
+use mathlib.Core.Path.{_≡_, sym, ap, _∙_}
 use mathlib.Core.List.{List, [], _++_, append-nil}
 use native.Mathlib.Omega.{arith}
 use lib.ListN.{length, getD, replicate, getD-replicate}
 use lib.Seq.{sets, length-sets}
 use Rattle.plain.specs.Lists.{tally}
-use Rattle.rules.specs.Pair.{OPEN}
+use Rattle.rules.specs.Pair.{OPEN, ROWS}
 use Rattle.rules.specs.Update.{waits}
 use Rattle.rules.specs.Heap.{waiting}
 use Rattle.rules.specs.Queue.{fresh}
-use Rattle.rules.proofs.Queue.{fresh-reading}
+use Rattle.rules.proofs.Queue.{fresh-reading, fresh-length}
 use Rattle.layout.specs.Image.{HEAD, ROW, elementsFrom, stackFrom, workFrom, layOut}
 use Rattle.header.specs.declared.Header.{Header}
-use Rattle.header.specs.Record.{ROWS, headerUpto, wordsUpto}
+use Rattle.header.specs.Record.{headerUpto, wordsUpto}
 use Rattle.at_work.specs.AtWork.{atWork, stackPlace, workPlace}
 use Rattle.at_work.proofs.Places.{working-length, passed-store, level-fill, top-word}
 use Rattle.descent.specs.declared.Halt.{Halt}
@@ -28,10 +28,6 @@ use Rattle.closing.proofs.Stored.{Numbers, stored}
 fresh-down : (n : ℕ) (top rest : List ℕ) (d j e : ℕ) → e ≡ j + d → atWork n top rest e [] [] [] ≡ atWork n top rest j (fresh d) [] []
 fresh-down n top rest zero j e q = ap (λ (x : ℕ). atWork n top rest x [] [] []) (q ∙ omega arith)
 fresh-down n top rest (suc d) j e q = fresh-down n top rest d (suc j) e (omega arith) ∙ level-fill n e top rest j OPEN [] (fresh d) (omega arith) [] []
-
-fresh-length : (d : ℕ) → length (fresh d) ≡ d
-fresh-length zero = refl
-fresh-length (suc d) = ap suc (fresh-length d)
 
 fresh-rows : (h : Header) (i d : ℕ) → i + d ≤ ROWS → Says (freshHeader h) i (fresh d)
 fresh-rows h i zero l = tt

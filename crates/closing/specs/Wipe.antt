@@ -5,11 +5,10 @@ use mathlib.Core.Path.{_≡_}
 use mathlib.Core.List.{List, _++_}
 use lib.ListN.{length, getD, replicate}
 use Prim.Native.Nat.{ℕ, _≤_}
-use Rattle.rules.specs.Pair.{OPEN, levels}
+use Rattle.rules.specs.Pair.{OPEN, levels, ROWS}
 use Rattle.rules.specs.Queue.{fresh}
 use Rattle.layout.specs.Image.{elementsFrom, stackFrom, workFrom, layOut}
 use Rattle.header.specs.declared.Header.{Header}
-use Rattle.header.specs.Record.{ROWS}
 use Rattle.descent.specs.declared.Halt.{Halt}
 use Rattle.descent.specs.Landed.{Through}
 

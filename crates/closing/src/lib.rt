@@ -2,7 +2,7 @@
 // fresh again.
 ghost use mathlib.Core.Path.{_≡_};
 ghost use Prim.Native.Nat.{_<_, _≤_};
-ghost use Rattle.header.specs.Record.{ROWS};
+ghost use Rattle.rules.specs.Pair.{ROWS};
 ghost use Rattle.closing.specs.Seal.{onwardOf, SomeFilled, Seals};
 ghost use Rattle.closing.specs.Wipe.{freshHeader, SomeSpent, Wipes};
 use descent::Halt;

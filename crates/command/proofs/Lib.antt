@@ -1,5 +1,4 @@
--- Reading: the reading of a line, place by place. Printing: text written piece by piece. Back: what is printed reads back. Long: longer lines. Assumes nothing.
+-- Reading: the reading of a line, place by place. Back: what is printed reads back. Long: longer lines. Assumes nothing.
 pub mod Reading
-pub mod Printing
 pub mod Back
 pub mod Long

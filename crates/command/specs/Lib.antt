@@ -1,3 +1,2 @@
--- Commands: what a line asks. Answers: what is printed. Assumes nothing.
+-- Commands: what a line asks. Assumes nothing.
 pub mod Commands
-pub mod Answers

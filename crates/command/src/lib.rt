@@ -1,6 +1,4 @@
-// A line of bytes as a command of the queue program, and in `answers` what the programs print. What each form means is specs/Commands and specs/Answers.
-pub mod answers;
-
+// A line of bytes as a command of the queue program. What each form means is specs/Commands.
 ghost use mathlib.Core.Path.{_≡_};
 ghost use mathlib.Core.List.{[], _∷_};
 ghost use Prim.Native.Nat.{_+_, _-_, _<_, _≤_};

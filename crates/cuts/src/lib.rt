@@ -3,6 +3,7 @@
 ghost use mathlib.Core.Path.{_≡_};
 ghost use Prim.Native.Nat.{_+_, _<_, _≤_};
 ghost use lib.ListN.{length, replicate};
+ghost use Rattle.rules.specs.Pair.{ROWS};
 ghost use Rattle.lists.specs.Put.{part};
 ghost use Rattle.cuts.specs.Ladder.{cutOf, LadderOf, Ladder};
 use header::Header;
@@ -20,7 +21,7 @@ fn cut_at(img: &[u64], at: usize, m: usize, r: usize, b: u64) -> u64
 
 // The smallest of the m sorted pairs at `at`, and then the cuts at 2, 4, .. 2^k.
 fn ladder(img: &[u64], at: usize, m: usize, k: usize, b: u64) -> [u64; Header::ROWS]
-    requires { ⌜ (at + m ≤ length (now img)) × (1 ≤ m) × (k < 17) ⌝ }
+    requires { ⌜ (at + m ≤ length (now img)) × (1 ≤ m) × (k < ROWS) ⌝ }
     ensures { λ p. ⌜ LadderOf b (part (now (img .entry)) at m) k p ⌝ }
 {
     let mut p = [0u64; Header::ROWS];
@@ -45,7 +46,7 @@ pub fn cuts(
     k: usize,
     b: u64,
 ) -> [u64; Header::ROWS]
-    requires { ⌜ (work + m ≤ length (now img)) × (at + m ≤ work) × (1 ≤ m) × (k < 17) × (part (now img) at m ≡ replicate m 0) ⌝ }
+    requires { ⌜ (work + m ≤ length (now img)) × (at + m ≤ work) × (1 ≤ m) × (k < ROWS) × (part (now img) at m ≡ replicate m 0) ⌝ }
     ensures { λ p. ⌜ (now (img .exit) ≡ now (img .entry)) × Ladder b (part (now (img .entry)) work m) k p ⌝ }
 {
     if m == 1 {

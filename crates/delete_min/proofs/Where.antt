@@ -1,6 +1,6 @@
 -- From a sound image and where its way down ended to what the later calls ask.
 -- Assumes nothing.
-use Prim.Native.Nat.{ℕ, suc, _+_, _<_, _≤_}
+use Prim.Native.Nat.{ℕ, suc, _+_, _<_}
 use mathlib.Core.Path.{_≡_, refl, sym, ap, _∙_, subst}
 use mathlib.Core.List.{List, [], _++_, append-nil}
 use native.Mathlib.Omega.{arith}
@@ -15,14 +15,13 @@ use Rattle.plain.proofs.Every.{every-weaken}
 use Rattle.rules.specs.Queue.{fresh, answer, deleteMin}
 use Rattle.layout.specs.Image.{HEAD, elementsFrom, stackFrom, workFrom, stack, updatesBelow, layOut}
 use Rattle.layout.specs.SoundImage.{nOf, heapOf, SoundImage, laidBack}
-use Rattle.layout.proofs.Image.{length-stack}
+use Rattle.layout.proofs.Image.{length-stack, roomy}
 use Rattle.push_update.proofs.Header.{top-is, top-fits}
 use Rattle.rules.proofs.Descent.{Outcome, descent, Stopped as Kept}
 use Rattle.rules.proofs.Rebuild.{all-within}
 use Rattle.rules.proofs.Refill.{asc-length}
 use Rattle.rules.proofs.Tally.{Sized, descend-sized}
 use Rattle.rules.proofs.Soundness.{sound-firm, delete-min-sound, levels-few}
-use Rattle.at_work.proofs.Blocks.{roomy}
 use Rattle.descent.specs.declared.Halt.{Halt}
 use Rattle.descent.proofs.Starts.{top-length, words-say}
 use Rattle.descent.specs.Landed.{topOf, laterOf, Stopped, landedFrom}
@@ -44,13 +43,10 @@ module _ (xs : List ℕ) (k : SoundImage xs) where
   sound : Firm n (heapOf xs)
   sound = sound-firm n (heapOf xs) (k .sound)
 
-  -- where the stack ends, by the header's words
-  pub top-asks : (elementsFrom (getD xs 1 0) ≤ length xs) × (getD xs 4 0 + updatesBelow (getD xs 1 0) (drop HEAD xs) ≤ length xs)
-  top-asks = top-fits xs k
-
   pub words-inside : 4 < length xs
-  words-inside = omega (arith, top-asks .0)
+  words-inside = omega (arith, top-fits xs k .0)
 
+  -- where the stack ends, by the header's words
   pub stack-ends : getD xs 4 0 + updatesBelow (getD xs 1 0) (drop HEAD xs) ≡ stackFrom L + length (stack (heapOf xs))
   stack-ends = top-is xs k ∙ ap (λ (z : ℕ). stackFrom L + z) (sym (length-stack (heapOf xs)))
 

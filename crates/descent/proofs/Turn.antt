@@ -8,8 +8,9 @@ use mathlib.Core.List.{List, [], _∷_, _++_}
 use native.Mathlib.Omega.{arith}
 use native.Mathlib.Nat.{pow-suc}
 use native.Mathlib.Numerals.{add-one}
-use lib.ListN.{length, getD, replicate, length-append, length-replicate}
+use lib.ListN.{length, replicate, length-append, length-replicate, drop-of-length-le}
 use lib.Seq.{sets}
+use lib.Pow.{pow-pos}
 use Rattle.plain.specs.Lists.{tally}
 use Rattle.lists.specs.Put.{part}
 use Rattle.lists.specs.Part.{part-put-before}
@@ -19,24 +20,19 @@ use Rattle.rules.specs.Heap.{Level, reading, waiting}
 use Rattle.rules.specs.Step.{Step, takeLevel, halt, descend}
 use Rattle.rules.specs.Firm.{Chain, Ends}
 use Rattle.rules.proofs.Descent.{valid-take}
-use Rattle.rules.proofs.Refill.{asc-length, pos-pow}
+use Rattle.rules.proofs.Refill.{asc-length}
 use Rattle.rules.proofs.Beyond.{passed-few, level-room}
 use Rattle.layout.specs.Words.{words, unwords}
-use Rattle.layout.specs.Image.{HEAD, ROW, stack, stackWords}
-use Rattle.layout.proofs.Image.{length-words, unwords-words}
+use Rattle.layout.specs.Image.{HEAD, ROW, stack, stackWords, Roomy}
+use Rattle.layout.proofs.Image.{length-words, unwords-words, length-area, roomy}
 use Rattle.level.specs.declared.Counts.{Counts}
 use Rattle.header.specs.Record.{wordAt, rowOf}
-use Rattle.at_work.specs.AtWork.{atWork, Roomy, levelPlace, stackPlace, workPlace}
-use Rattle.at_work.proofs.Blocks.{length-area, roomy}
+use Rattle.at_work.specs.AtWork.{atWork, levelPlace, stackPlace, workPlace}
 use Rattle.at_work.proofs.Places.{working-length, work-read, work-set, passed-read, passed-store, level-read, level-clear, top-word}
 use Rattle.at_work.proofs.Hands.{passed-clear}
 use Rattle.descent.specs.Visit.{Visitable, visited, Visited}
 use Rattle.descent.specs.Landed.{Landed}
 use Rattle.descent.proofs.Going.{Going, Facing}
-
-nil-of-length : (E : List ℕ) → length E ≡ 0 → E ≡ []
-nil-of-length [] h = refl
-nil-of-length (p ∷ E) h = absurd (omega arith)
 
 -- "bounds never fall from level to level and the last is open"
 floor-le : (n f i : ℕ) (ls : List Level) → Chain (Ends n) n f i ls → f ≤ suc OPEN
@@ -114,11 +110,11 @@ module _ {n L : ℕ} {top rest : List ℕ} {ls₀ : List Level} {i at p x width 
   -- what the code asks on the way
   pub asks : (from ≤ work) × (own ≤ at) × (own + p ≤ work) × (width * 2 + length top ≤ work + 1) × (1 ≤ width) × (bound ≤ OPEN)
   asks = (
-    omega (arith, from-is, below, w, pos-pow i),
+    omega (arith, from-is, below, w, pow-pos i),
     omega (arith, g .at-is),
     omega (arith, g .count, g .room, w),
     omega (arith, g .wide, below, w),
-    omega (arith, g .wide, pos-pow i),
+    omega (arith, g .wide, pow-pos i),
     small,
   )
 
@@ -134,7 +130,7 @@ module _ {n L : ℕ} {top rest : List ℕ} {ls₀ : List Level} {i at p x width 
       ∙ rw (from-is, g .row .1) (level-clear n L top rest i l ls (g .firm .room) (g .passed) [])
 
   before-run : from + m ≤ run
-  before-run = omega (arith, from-is, run-is, below, g .row .1, g .firm .room, pos-pow i)
+  before-run = omega (arith, from-is, run-is, below, g .row .1, g .firm .room, pow-pos i)
 
   found-words : part img run (own + p) ≡ words qs
   found-words =
@@ -206,7 +202,7 @@ module _ {n L : ℕ} {top rest : List ℕ} {ls₀ : List Level} {i at p x width 
     -- nothing is held: on to the next level
     pub goes-on : r .elements ≡ 0 → Going n L top rest ls₀ (i + 1) run (r .passed) (x + r .ended) (width * 2) (bound + 1) zs
     goes-on h =
-        let z : t .elements ≡ [] = nil-of-length (t .elements) (sym r-elements ∙ h) in
+        let z : t .elements ≡ [] = drop-of-length-le (t .elements) {i = 0} (omega (arith, r-elements, h)) in
         rw (add-one i, add-one bound, g .row .0) (record {
           levels = ls;
           passed = t .passed;

@@ -1,2 +1,2 @@
--- Report: what the program prints of a run. Assumes nothing.
-pub mod Report
+-- Answered: what is printed of what was read. Assumes nothing.
+pub mod Answered

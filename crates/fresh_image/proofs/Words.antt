@@ -8,8 +8,8 @@ use mathlib.Core.List.{List, [], _∷_, _++_, append-assoc, append-nil}
 use native.Mathlib.Omega.{arith}
 use native.Mathlib.Numerals.{add-one}
 use native.Mathlib.Nat.{pow-suc}
-use lib.Pow.{pow-mono}
-use lib.ListN.{length, set, drop, replicate, length-append, length-replicate, replicate-append-replicate}
+use lib.Pow.{pow-mono, pow-pos}
+use lib.ListN.{length, set, drop, replicate, length-append, length-replicate}
 use lib.Seq.{sets, sets-eq, set-at}
 use Rattle.plain.specs.Lists.{pad, tally}
 use Rattle.rules.specs.Pair.{OPEN, levels}
@@ -17,9 +17,9 @@ use Rattle.rules.specs.Update.{waits}
 use Rattle.rules.specs.Heap.{waiting}
 use Rattle.rules.specs.Queue.{fresh}
 use Rattle.rules.proofs.Queue.{fresh-reading}
-use Rattle.rules.proofs.Refill.{pos-pow}
 use Rattle.layout.specs.Image.{HEAD, ROW, elementsFrom, stackFrom, stackWords, workFrom, rowWords, elementWords, stack, need, layOut}
 use Rattle.fresh_image.specs.Bounds.{opened}
+use Rattle.lists.specs.Blocks.{zeros-append}
 
 -- ---- the rows
 
@@ -59,9 +59,6 @@ opened-rows H rest L (suc i) e h =
 
 -- ---- the zeros
 
-zeros-join : (a b c : ℕ) → a + b ≡ c → replicate {A = ℕ} a 0 ++ replicate b 0 ≡ replicate c 0
-zeros-join a b c e = replicate-append-replicate a b 0 ∙ ap (λ (k : ℕ). replicate k 0) e
-
 elements-fresh : (i d e : ℕ) → e ≡ i + d → elementWords i (fresh d) ≡ replicate (2 ^ e - 2 ^ i) 0
 elements-fresh i zero e q =
     let r : e ≡ i = omega arith in
@@ -70,7 +67,7 @@ elements-fresh i zero e q =
 elements-fresh i (suc d) e q =
     let p : 2 ^ suc i ≤ 2 ^ e = pow-mono (omega arith) in
     ap (λ (t : List ℕ). pad (2 ^ i) [] ++ t) (elements-fresh (suc i) d e (omega arith))
-    ∙ zeros-join (2 ^ i - 0) (2 ^ e - 2 ^ suc i) (2 ^ e - 2 ^ i) (omega (arith, pow-suc 2 i))
+    ∙ zeros-append (2 ^ i - 0) (2 ^ e - 2 ^ suc i) (2 ^ e - 2 ^ i) (omega (arith, pow-suc 2 i))
 
 stack-fresh : (d : ℕ) → stack (fresh d) ≡ []
 stack-fresh zero = refl
@@ -95,7 +92,7 @@ module _ (n L : ℕ) (l : L ≡ levels n) where
   behind-rows : elementWords 0 (fresh L) ++ (pad (stackWords n) (stack (fresh L)) ++ replicate n 0) ≡ Q
   behind-rows =
       rw (stack-fresh L, elements-fresh 0 L L (omega arith))
-      (ap (λ (t : List ℕ). replicate (2 ^ L - 1) 0 ++ t) (zeros-join (stackWords n - 0) n (stackWords n + n) (omega arith)) ∙ zeros-join (2 ^ L - 1) (stackWords n + n) q refl)
+      (ap (λ (t : List ℕ). replicate (2 ^ L - 1) 0 ++ t) (zeros-append (stackWords n - 0) n (stackWords n + n) (omega arith)) ∙ zeros-append (2 ^ L - 1) (stackWords n + n) q refl)
 
   image : (rest : List ℕ) → layOut n (fresh L) ++ rest ≡ H ++ (rowWords (fresh L) ++ (Q ++ rest))
   unfolding layOut
@@ -109,8 +106,8 @@ module _ (n L : ℕ) (l : L ≡ levels n) where
       let p : 2 ^ L ≡ 2 ^ levels n = ap (λ (j : ℕ). 2 ^ j) l in
       sets-eq (replicate N 0) xs 0 (omega arith)
       ∙ ap (λ (k : ℕ). replicate N 0 ++ drop k xs) e
-      ∙ ap (λ (t : List ℕ). t ++ drop N xs) (sym (zeros-join HEAD (ROW * L + q) N (omega (arith, pos-pow L))))
-      ∙ ap (λ (t : List ℕ). (replicate HEAD 0 ++ t) ++ drop N xs) (sym (zeros-join (ROW * L) q (ROW * L + q) refl))
+      ∙ ap (λ (t : List ℕ). t ++ drop N xs) (sym (zeros-append HEAD (ROW * L + q) N (omega (arith, pow-pos L))))
+      ∙ ap (λ (t : List ℕ). (replicate HEAD 0 ++ t) ++ drop N xs) (sym (zeros-append (ROW * L) q (ROW * L + q) refl))
       ∙ ap (λ (t : List ℕ). replicate HEAD 0 ++ t) (append-assoc (replicate (ROW * L) 0) Q (drop N xs))
 
   pub fresh-words : (xs : List ℕ) → need n ≤ length xs → (N a b c : ℕ) → N ≡ need n → a ≡ elementsFrom L → b ≡ stackFrom L → c ≡ workFrom n L

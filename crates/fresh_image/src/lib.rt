@@ -3,7 +3,7 @@ ghost use mathlib.Core.Path.{_≡_};
 ghost use mathlib.Core.List.{_++_};
 ghost use Prim.Native.Nat.{_+_, _*_, _^_, _≤_};
 ghost use lib.ListN.{length, drop};
-ghost use Rattle.rules.specs.Pair.{IDS, levels};
+ghost use Rattle.rules.specs.Pair.{IDS, levels, ROWS};
 ghost use Rattle.rules.specs.Queue.{fresh};
 ghost use Rattle.layout.specs.Image.{elementsFrom, need, layOut};
 ghost use Rattle.fresh_image.specs.Bounds.{opened};
@@ -26,7 +26,7 @@ pub struct Depth {
 // Doubles from 1 on until n is reached: L is one more than the doublings.
 pub fn depth_of(n: usize) -> Depth
     requires { ⌜ n ≤ IDS ⌝ }
-    ensures { λ r. ⌜ (r .levels ≡ levels n) × (r .size ≡ 2 ^ levels n) × (1 ≤ r .levels) × (r .levels ≤ 17) × (r .size ≤ 131072) × (1 ≤ r .size) ⌝ }
+    ensures { λ r. ⌜ (r .levels ≡ levels n) × (r .size ≡ 2 ^ levels n) × (1 ≤ r .levels) × (r .levels ≤ ROWS) × (r .size ≤ 2 ^ ROWS) × (1 ≤ r .size) ⌝ }
 {
     let mut i = 0;
     let mut half = 1;

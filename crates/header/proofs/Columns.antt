@@ -7,8 +7,9 @@ use mathlib.Core.List.{List, [], _∷_, _++_}
 use native.Mathlib.Omega.{arith}
 use lib.ListN.{length, getD}
 use Rattle.layout.proofs.Image.{length-pad}
-use Rattle.header.specs.Record.{ROWS, listed, wordAt, columnOf}
+use Rattle.header.specs.Record.{listed, wordAt, columnOf}
 use Rattle.header.proofs.Turns.{length-listed}
+use Rattle.rules.specs.Pair.{ROWS}
 
 -- level 0's first
 listed-cons : (f : ℕ → ℕ) (n : ℕ) → listed f (suc n) ≡ f 0 ∷ listed (λ i. f (suc i)) n

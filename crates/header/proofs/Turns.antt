@@ -12,7 +12,8 @@ use Rattle.plain.specs.Lists.{pad}
 use Rattle.layout.specs.Image.{HEAD, ROW}
 use Rattle.layout.proofs.Image.{zeros}
 use Rattle.header.specs.declared.Header.{Header}
-use Rattle.header.specs.Record.{ROWS, listed, wordAt, columnOf, headerUpto, withRow, rowsOf, atLevel}
+use Rattle.header.specs.Record.{listed, wordAt, columnOf, headerUpto, withRow, rowsOf, atLevel}
+use Rattle.rules.specs.Pair.{ROWS}
 
 pub length-listed : (f : ℕ → ℕ) (n : ℕ) → length (listed f n) ≡ n
 length-listed f zero = refl

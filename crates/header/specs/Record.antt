@@ -1,5 +1,5 @@
 -- The header as one record: what any words read as, a record's words, one row anew.
---   ROWS      how many rows a record has          columnOf   one column of the rows of any words
+--   columnOf  one column of the rows of any words, as many as a record has
 --   rowOf     a row of any words                  withRow    a record with one row anew
 --   headerUpto   the record of any words, with so many rows        wordsUpto   the words of a record, with so many rows
 -- Not here: the image (Rattle.layout.specs.Image).
@@ -11,10 +11,7 @@ use Rattle.plain.specs.Lists.{pad}
 use Rattle.layout.specs.Image.{HEAD, ROW}
 use Rattle.header.specs.declared.Header.{Header}
 use Rattle.header.specs.declared.Row.{Row}
-
--- "its level rows (at most seventeen)"
-abbrev pub ROWS : ℕ
-ROWS = 17
+use Rattle.rules.specs.Pair.{ROWS}
 
 -- what f gives of each level, level 0 first
 abbrev pub listed : (ℕ → ℕ) → ℕ → List ℕ

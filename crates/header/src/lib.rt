@@ -3,10 +3,11 @@
 ghost use mathlib.Core.Path.{_≡_};
 ghost use mathlib.Core.List.{[], _∷_};
 ghost use Prim.Native.Nat.{_+_, _*_, _<_, _≤_};
-ghost use lib.ListN.{length, getD};
+ghost use lib.ListN.{length};
 ghost use lib.Seq.{sets};
+ghost use Rattle.rules.specs.Pair.{ROWS};
 ghost use Rattle.layout.specs.Image.{HEAD, ROW};
-ghost use Rattle.header.specs.Record.{ROWS, rowOf, headerUpto, wordsUpto, withRow};
+ghost use Rattle.header.specs.Record.{rowOf, headerUpto, wordsUpto, withRow};
 
 // "The header is held as one record with its level rows (at most seventeen)": three flat arrays beside n, L and the offsets. Each field is a
 // word of the image.

@@ -1,11 +1,11 @@
 // An image's header: what may lie at a level, and the clauses on the header's words and level rows.
 // The meanings are Rattle.image_clauses.specs.Clauses.
 ghost use mathlib.Core.Path.{_≡_};
-ghost use Prim.Native.Nat.{_+_, _*_, _<_, _≤_, _^_, min};
+ghost use Prim.Native.Nat.{_+_, _*_, _<_, _≤_, min};
 ghost use lib.ListN.{length};
-ghost use Rattle.rules.specs.Pair.{IDS, OPEN, levels};
+ghost use Rattle.rules.specs.Pair.{IDS, OPEN, levels, ROWS};
 ghost use Rattle.layout.specs.Image.{HEAD, elementsFrom, stackWords};
-ghost use Rattle.image_clauses.specs.Clauses.{Says, MOST, Sized, HeaderOk, BoundsOk, floorOf, topKind, updatesUnder};
+ghost use Rattle.image_clauses.specs.Clauses.{Says, Sized, HeaderOk, BoundsOk, floorOf, topKind, updatesUnder};
 use pair::Pair;
 use pair::Update;
 use places::ELEMENTS_AT;
@@ -18,7 +18,7 @@ use places::WORK_AT;
 
 // The least pair that may lie at level i: past the bound of the level before.
 pub fn floor_of(img: &[u64], i: usize) -> u64
-    requires { ⌜ (i ≤ MOST) × (elementsFrom i ≤ length (now img)) × (floorOf (now img) i ≤ OPEN + 1) ⌝ }
+    requires { ⌜ (i ≤ ROWS) × (elementsFrom i ≤ length (now img)) × (floorOf (now img) i ≤ OPEN + 1) ⌝ }
     ensures { λ r. ⌜ r ≡ floorOf (now (img .entry)) i ⌝ }
 {
     if i == 0 {
@@ -62,7 +62,7 @@ pub fn header_ok(img: &[u64], n: u64, levels: usize, size: usize) -> bool
 
 // Whether the bounds never fall and the last one is open.
 pub fn bounds_ok(img: &[u64], levels: usize) -> bool
-    requires { ⌜ (1 ≤ levels) × (levels ≤ MOST) × (elementsFrom levels ≤ length (now img)) ⌝ }
+    requires { ⌜ (1 ≤ levels) × (levels ≤ ROWS) × (elementsFrom levels ≤ length (now img)) ⌝ }
     ensures { λ r. ⌜ Says r (BoundsOk (now (img .entry)) levels) ⌝ }
 {
     let mut i = 0;
@@ -81,7 +81,7 @@ pub fn bounds_ok(img: &[u64], levels: usize) -> bool
 
 // How many updates the rows state in all, or limit + 1 where that is more than the limit. No sum of stated counts passes the limit.
 pub fn stack_used(img: &[u64], levels: usize, limit: usize) -> usize
-    requires { ⌜ (levels ≤ MOST) × (elementsFrom levels ≤ length (now img)) × (limit ≤ stackWords IDS) ⌝ }
+    requires { ⌜ (levels ≤ ROWS) × (elementsFrom levels ≤ length (now img)) × (limit ≤ stackWords IDS) ⌝ }
     ensures { λ r. ⌜ r ≡ min (updatesUnder (now (img .entry)) 0 levels) (limit + 1) ⌝ }
 {
     let mut used = 0;

@@ -7,17 +7,17 @@ use mathlib.Core.Path.{_≡_, refl, sym, ap, _∙_}
 use native.Mathlib.Omega.{arith}
 use native.Mathlib.Nat.{two-pow-succ}
 use lib.ListN.{length, take, replicate, length-append}
+use lib.Pow.{pow-pos, pow-mono}
 use Rattle.rules.specs.Update.{Update, waits}
 use Rattle.rules.specs.Heap.{stores, Level, reading, waiting}
 use Rattle.rules.specs.Pair.{levels}
 use Rattle.plain.specs.Lists.{tally, pad}
 use Rattle.layout.specs.Words.{words, unwords}
 use Rattle.layout.specs.Image.{HEAD, ROW, stackFrom, stackWords, need, headWords, rowWords, elementWords, stack, layOut}
-use Rattle.layout.proofs.Image.{length-words, length-pad, length-rows}
+use Rattle.layout.proofs.Image.{length-words, length-pad, length-rows, unwords-append}
 use Rattle.rules.proofs.Tally.{tally-append, stores-wait}
 use Rattle.lists.specs.Put.{part}
 use Rattle.image_clauses.specs.Clauses.{boundWord, elementCount, updateCount, areaFrom, updatesUnder, levelAt, levelsOf}
-use Rattle.image_clauses.specs.Rows.{power-le, power-low}
 use Rattle.image_clauses.proofs.Parts.{part-add, cut-at, part-three}
 
 -- ---- UPDATES READ FROM WORDS
@@ -25,10 +25,6 @@ use Rattle.image_clauses.proofs.Parts.{part-add, cut-at, part-three}
 pub length-unwords : (ws : List ℕ) → length (unwords ws) ≡ length ws
 length-unwords [] = refl
 length-unwords (w ∷ ws) = ap suc (length-unwords ws)
-
-unwords-append : (xs ys : List ℕ) → unwords (xs ++ ys) ≡ unwords xs ++ unwords ys
-unwords-append [] ys = refl
-unwords-append (x ∷ xs) ys = rw (unwords-append xs ys)
 
 -- ---- EACH LEVEL: what holds at each of d levels from level i on; P i d speaks of level i, with d levels deeper
 
@@ -76,10 +72,8 @@ module _ (ws : List ℕ) (L : ℕ) where
       → part ws (HEAD + ROW * i) (ROW * suc d) ≡ boundWord ws i ∷ elementCount ws i ∷ updateCount ws i ∷ part ws (HEAD + ROW * suc i) (ROW * d)
   row d i h =
       let e : ROW * suc d ≡ ROW + ROW * d = omega arith in
-      let e₁ : HEAD + ROW * i + 1 ≡ HEAD + ROW * i + 1 = omega arith in
-      let e₂ : HEAD + ROW * i + 2 ≡ HEAD + ROW * i + 2 = omega arith in
       let e₃ : HEAD + ROW * i + ROW ≡ HEAD + ROW * suc i = omega arith in
-      ap (λ (k : ℕ). part ws (HEAD + ROW * i) k) e ∙ part-three ws (HEAD + ROW * i) (ROW * d) (omega arith) ∙ rw (e₁, e₂, e₃)
+      ap (λ (k : ℕ). part ws (HEAD + ROW * i) k) e ∙ part-three ws (HEAD + ROW * i) (ROW * d) (omega arith) ∙ rw e₃
 
   pub rows-exactly : (d i : ℕ) → HEAD + ROW * (i + d) ≤ length ws → (part ws (HEAD + ROW * i) (ROW * d) ≡ rowWords (levelsOf ws L i d)) ↔ Each Counted i d
   rows-exactly zero i h = (λ e. tt, λ e. refl)
@@ -95,10 +89,10 @@ module _ (ws : List ℕ) (L : ℕ) where
       )
 
   area-step : (d i : ℕ) → i + suc d ≡ L → 2 ^ L - 2 ^ i ≡ 2 ^ i + (2 ^ L - 2 ^ suc i)
-  area-step d i e = omega (arith, two-pow-succ i, power-le (suc i) L (omega arith))
+  area-step d i e = omega (arith, two-pow-succ i, pow-mono {i = suc i} {j = L} (omega arith))
 
   area-next : (i : ℕ) → areaFrom L i + 2 ^ i ≡ areaFrom L (suc i)
-  area-next i = omega (arith, two-pow-succ i, power-low i)
+  area-next i = omega (arith, two-pow-succ i, pow-pos i)
 
   pub area-exactly : (d i : ℕ) → i + d ≡ L → Each Roomy i d → (part ws (areaFrom L i) (2 ^ L - 2 ^ i) ≡ elementWords i (levelsOf ws L i d)) ↔ Each Padded i d
   area-exactly zero i e r =

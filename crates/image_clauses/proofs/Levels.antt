@@ -8,13 +8,14 @@ use native.Mathlib.Omega.{arith}
 use native.Mathlib.Nat.{two-pow-succ}
 use native.Mathlib.Numerals.{add-one}
 use lib.ListN.{length}
+use lib.Pow.{pow-pos, pow-mono}
 use Rattle.rules.specs.Pair.{OPEN}
 use Rattle.plain.specs.Lists.{Every}
 use Rattle.rules.specs.Firm.{LevelFirm, Chain, Sinkless}
 use Rattle.layout.specs.Image.{stackFrom}
 use Rattle.lists.specs.Put.{part, length-part}
 use Rattle.image_clauses.specs.Clauses.{boundWord, elementCount, updateCount, floorOf, topKind, areaFrom, updatesUnder, levelsOf, UpdateOk, BoundsOk, LevelWords, LevelsOk}
-use Rattle.image_clauses.specs.Rows.{power-le, power-low, under-le}
+use Rattle.image_clauses.specs.Rows.{under-le}
 use Rattle.image_clauses.proofs.Lists.{pairs-exactly, updates-sound, sound-updates, sinkless-updates, updates-sinkless, WordsSound}
 use Rattle.image_clauses.proofs.Parts.{pad-cut}
 use Rattle.image_clauses.proofs.Laying.{Each, at, level, Counted, Roomy, Padded, Kept, length-unwords}
@@ -54,7 +55,7 @@ module _ (ws : List ℕ) (n L : ℕ) where
 
   module _ (i d : ℕ) (e : i + suc d ≡ L) (long : stackFrom L + updatesUnder ws 0 L ≤ length ws) where
     area-fits : areaFrom L i + 2 ^ i ≤ stackFrom L
-    area-fits = omega (arith, two-pow-succ i, power-low i, power-le (suc i) L (omega arith))
+    area-fits = omega (arith, two-pow-succ i, pow-pos i, pow-mono {i = suc i} {j = L} (omega arith))
 
     -- FROM THE WORDS
     module _ (w : Words i d) where

@@ -7,10 +7,10 @@ use native.Mathlib.Omega.{arith}
 use native.Mathlib.Nat.{two-pow-succ}
 use lib.ListN.{getD, drop}
 use lib.Seq.{getD-drop, drop-drop}
+use lib.Pow.{pow-pos}
 use Rattle.rules.specs.Pair.{levels}
 use Rattle.layout.specs.Image.{HEAD, ROW, elementsFrom, stackFrom, updatesBelow, readLevels, readOut}
 use Rattle.image_clauses.specs.Clauses.{areaFrom, updatesUnder, levelsOf}
-use Rattle.image_clauses.specs.Rows.{power-low}
 
 module _ (ws : List ℕ) where
   row-next : (i : ℕ) → drop ROW (drop (HEAD + ROW * i) ws) ≡ drop (HEAD + ROW * suc i) ws
@@ -28,7 +28,7 @@ module _ (ws : List ℕ) where
   module _ (L : ℕ) where
     area-next : (i : ℕ) → drop (2 ^ i) (drop (areaFrom L i) ws) ≡ drop (areaFrom L (suc i)) ws
     area-next i =
-        let e : areaFrom L i + 2 ^ i ≡ areaFrom L (suc i) = omega (arith, two-pow-succ i, power-low i) in
+        let e : areaFrom L i + 2 ^ i ≡ areaFrom L (suc i) = omega (arith, two-pow-succ i, pow-pos i) in
         drop-drop (2 ^ i) (areaFrom L i) ws ∙ rw e
 
     pub levels-are : (d i : ℕ) → readLevels d i (drop (HEAD + ROW * i) ws) (drop (areaFrom L i) ws) (drop (stackFrom L) ws) ≡ levelsOf ws L i d

@@ -10,9 +10,10 @@ use lib.ListN.{length, getD}
 use Rattle.plain.specs.Lists.{tally}
 use Rattle.lists.specs.Put.{part}
 use Rattle.rules.specs.Update.{waits}
+use Rattle.rules.specs.Pair.{ROWS}
 use Rattle.layout.specs.Words.{unwords}
 use Rattle.layout.specs.Image.{elementsFrom, stackFrom, stackWords}
-use Rattle.image_clauses.specs.Clauses.{Says, MOST, AllZero, HeaderOk, BoundsOk, LevelsOk, OrderOk, updatesUnder, usedWords, restWords}
+use Rattle.image_clauses.specs.Clauses.{Says, AllZero, HeaderOk, BoundsOk, LevelsOk, OrderOk, updatesUnder, usedWords, restWords}
 use Rattle.image_clauses.specs.Turns.{says-yes, says-no, says-same}
 
 -- what the header states
@@ -23,7 +24,7 @@ pub record Shape (ws : List ℕ) (n L : ℕ) : Type 0 where
 
 -- what reading the levels relies on: the size 2^L, that all their words are there, and bounds that are at most the open one
 abbrev pub Ready : List ℕ → ℕ → ℕ → Type 0
-Ready ws L size = (L ≤ MOST) × (size ≡ 2 ^ L) × (1 ≤ size) × (stackFrom L + updatesUnder ws 0 L ≤ length ws) × BoundsOk ws L
+Ready ws L size = (L ≤ ROWS) × (size ≡ 2 ^ L) × (1 ≤ size) × (stackFrom L + updatesUnder ws 0 L ≤ length ws) × BoundsOk ws L
 
 -- every level as it must be, and the order
 abbrev pub InOrder : List ℕ → ℕ → ℕ → Type 0

@@ -1,7 +1,7 @@
 -- A sound image, clause by clause, on its words: each clause is about words that can be tested in one pass. L is the number of levels.
 --   Says            what a test's answer states
 --   boundWord, elementCount, updateCount     the words of level i's row        floorOf    the least pair that may lie at level i
---   MOST, Sized     the most levels; n, L and 2^L as the test has them         areaFrom   where level i's elements stand
+--   Sized           n, L and 2^L as the test has them                          areaFrom   where level i's elements stand
 --   updatesUnder    the updates of d levels from level i on
 --   PairOk, Pairs   what an element word and a level's element words must be  UpdateOk   what an update word must be
 --   HeaderOk, BoundsOk, LevelWords, LevelsOk, OrderOk                         the clauses
@@ -15,7 +15,7 @@ use mathlib.Core.Path.{_≡_}
 use lib.ListN.{getD}
 use Rattle.plain.specs.Lists.{Every}
 use Rattle.lists.specs.Put.{part}
-use Rattle.rules.specs.Pair.{IDS, OPEN, idOf}
+use Rattle.rules.specs.Pair.{IDS, OPEN, idOf, ROWS}
 use Rattle.rules.specs.Update.{absent}
 use Rattle.rules.specs.Heap.{Level, reading, only}
 use Rattle.rules.specs.Lanes.{Ordered}
@@ -39,13 +39,9 @@ elementCount ws i = getD ws (HEAD + ROW * i + 1) 0
 abbrev pub updateCount : List ℕ → ℕ → ℕ
 updateCount ws i = getD ws (HEAD + ROW * i + 2) 0
 
--- "level rows (at most seventeen)"
-abbrev pub MOST : ℕ
-MOST = 17
-
 -- n ids, the number L of levels and the size 2^L, all small, so that no sum of places passes 64 bits
 abbrev pub Sized : ℕ → ℕ → ℕ → Type 0
-Sized n L size = (n ≤ IDS) × (1 ≤ L) × (L ≤ MOST) × (size ≡ 2 ^ L) × (1 ≤ size) × (size ≤ 2 ^ MOST)
+Sized n L size = (n ≤ IDS) × (1 ≤ L) × (L ≤ ROWS) × (size ≡ 2 ^ L) × (1 ≤ size) × (size ≤ 2 ^ ROWS)
 
 -- past the bound of the level before: the least pair that may lie at level i
 abbrev pub floorOf : List ℕ → ℕ → ℕ

@@ -5,10 +5,8 @@ use mathlib.Core.List.{List, _∷_}
 use mathlib.Core.Logic.{_↔_}
 use mathlib.Core.Path.{_≡_, refl}
 use native.Mathlib.Omega.{arith}
-use native.Mathlib.Numerals.{add-one}
-use native.Mathlib.Nat.{two-pow-succ, pow-le-pow-right, one-le-pow}
-use borrow.Author.Tests.{le-leb, lt-leb}
-use Rattle.rules.specs.Pair.{OPEN, levels, levelsFrom}
+use native.Mathlib.Nat.{two-pow-succ}
+use Rattle.rules.specs.Pair.{OPEN}
 use Rattle.rules.specs.Heap.{reading}
 use Rattle.layout.specs.Image.{stackFrom}
 use Rattle.image_clauses.specs.Clauses.{boundWord, updateCount, floorOf, topKind, updatesUnder, BoundsOk, LevelWords, LevelsOk, levelAt, levelsOf}
@@ -18,34 +16,6 @@ use Rattle.image_clauses.specs.Marks.{Marked, marked-append}
 
 pub power-next : (i k : ℕ) → k ≡ suc i → 2 ^ k ≡ 2 ^ i + 2 ^ i
 power-next i k e = rw e (two-pow-succ i)
-
-pub power-le : (i j : ℕ) → i ≤ j → 2 ^ i ≤ 2 ^ j
-power-le i j h = pow-le-pow-right {n = 2} (omega arith) {i = i} {j = j} h
-
-pub power-low : (i : ℕ) → 1 ≤ 2 ^ i
-power-low i = one-le-pow i 2 (omega arith)
-
--- ---- THE NUMBER OF LEVELS: what is left of its search gives the same number
-
-pub levels-start : (n : ℕ) → levels n ≡ levelsFrom (16 - 0) 0 n
-unfolding levels
-levels-start n = refl
-
-pub levels-on : (n i : ℕ) → i < 16 → 2 ^ i < n → levelsFrom (16 - i) i n ≡ levelsFrom (16 - (i + 1)) (i + 1) n
-levels-on n i h l =
-    let e : 16 - i ≡ suc (16 - (i + 1)) = omega arith in
-    let f : i + 1 ≡ suc i = add-one i in
-    rw (e, lt-leb n (2 ^ i) l, f)
-
-pub levels-stop : (n i : ℕ) → i < 16 → n ≤ 2 ^ i → levelsFrom (16 - i) i n ≡ i + 1
-levels-stop n i h l =
-    let e : 16 - i ≡ suc (16 - (i + 1)) = omega arith in
-    rw (e, le-leb n (2 ^ i) l) (omega arith)
-
-pub levels-end : (n i : ℕ) → 16 ≤ i → levelsFrom (16 - i) i n ≡ i + 1
-levels-end n i h =
-    let e : 16 - i ≡ 0 = omega arith in
-    rw e (omega arith)
 
 -- ---- WHAT MAY LIE AT A LEVEL
 

@@ -17,10 +17,9 @@ use Rattle.rules.specs.Queue.{fresh, makeRoom, updated, deleteMin}
 use Rattle.rules.specs.Sound.{Sound}
 use Rattle.rules.proofs.Soundness.{fresh-heap, updated-sound, delete-min-sound, tidy-sound}
 use Rattle.layout.specs.Image.{layOut, readOut}
-use Rattle.layout.specs.SoundImage.{nOf, heapOf, laidBack, SoundImage, TooShort, Verdict, good, Judges}
+use Rattle.layout.specs.SoundImage.{nOf, heapOf, laidBack, SoundImage, TooShort, Verdict, Judges}
 use Rattle.layout.specs.Refusals.{freshRefusals}
 use Rattle.layout.specs.Calls.{found, empty, deleteMinCall, QueueCalls}
-use Rattle.layout.proofs.Verdict.{judged-unique}
 use Rattle.layout.proofs.Back.{n-lay-out, heap-lay-out, sound-lay-out, heap-laid-back, fresh-image}
 use Rattle.walks.specs.Rows.{Has}
 use Rattle.walks.specs.Walks.{Walk, start, step, Table, UNREACHED, distanceWord}
@@ -32,6 +31,7 @@ use Rattle.demands.specs.Demand1.{Demand1}
 use Rattle.demands.specs.Session.{decreaseKey, takeMin, Said, gave, saidEmpty, plainSays}
 use Rattle.demands.specs.Demand2.{Demand2}
 use Rattle.demands.specs.Demand3.{Demand3}
+use Rattle.demands.proofs.Plays.{judged-good}
 use Rattle.impostors.specs.Wrong.{refusesAll, alwaysEmpty, pushesNothing, repeats, invents, clearsAll, oneForAll}
 
 -- ---- demand 1
@@ -119,13 +119,10 @@ two-sound : SoundImage two
 two-sound = sound-lay-out 4 waits waits-sound []
 
 module _ (judge : List ℕ → Verdict) (right : Judges judge) where
-  judged : (ws : List ℕ) → SoundImage ws → judge ws ≡ good
-  judged ws s = judged-unique ws (judge ws) good (right ws) s
-
   -- the empty queue still says empty, with reach 1
   one-empty : (deleteMinCall (judge one) one) .reply ≡ empty 1
   unfolding deleteMinCall deleteMin layOut readOut levels
-  one-empty = rw (judged one one-sound) refl
+  one-empty = rw (judged-good judge right one one-sound) refl
 
   pub pushes-nothing-breaks-demand-two : (s : SheetCalls) → Demand2 (pushesNothing judge) s → ⊥
   pushes-nothing-breaks-demand-two s d =
@@ -141,10 +138,10 @@ module _ (judge : List ℕ → Verdict) (right : Judges judge) where
       omega (arith, q .0, one-levels)
 
   two-image : ((clearsAll judge) .deleteMin two) .image ≡ laidBack two (tidy 4 ((deleteMin waits) .after))
-  two-image = rw (judged two two-sound, heap-lay-out 4 waits waits-sound [], n-lay-out 4 waits []) refl
+  two-image = rw (judged-good judge right two two-sound, heap-lay-out 4 waits waits-sound [], n-lay-out 4 waits []) refl
 
   two-found : ((clearsAll judge) .deleteMin two) .reply ≡ found (pairOf 1 2) 1
-  two-found = rw (judged two two-sound, heap-lay-out 4 waits waits-sound [], waits-answer .0, waits-answer .1) refl
+  two-found = rw (judged-good judge right two two-sound, heap-lay-out 4 waits waits-sound [], waits-answer .0, waits-answer .1) refl
 
   -- level 0 answers, and level 1's updates must stay
   pub clears-all-breaks-demand-three : Demand3 (clearsAll judge) → ⊥

@@ -1,10 +1,9 @@
 -- A slice once a heap is laid back into it: the image of that heap, and the later words as they were.
 -- Assumes nothing.
-use Prim.Native.Nat.{ℕ, _≤_}
+use Prim.Native.Nat.{ℕ}
 use mathlib.Core.List.{List, _++_}
 use mathlib.Core.Path.{_≡_, refl, sym, ap, _∙_}
-use native.Mathlib.Omega.{arith}
-use lib.ListN.{length, getD, drop, length-append, length-drop, take-append-drop}
+use lib.ListN.{getD, drop, take-append-drop}
 use lib.Seq.{drop-at}
 use Rattle.rules.specs.Pair.{InRange, levels}
 use Rattle.rules.specs.Heap.{Level, waiting}
@@ -50,16 +49,6 @@ module _ (ws : List ℕ) (ls : List Level) (t : Sound (nOf ws) ls) where
   pub later-laid-back : drop (need (nOf ws)) (laidBack ws ls) ≡ drop (need (nOf ws)) ws
   unfolding laidBack
   later-laid-back = drop-lay-out (nOf ws) ls t (drop (need (nOf ws)) ws)
-
-  pub length-laid-back : need (nOf ws) ≤ length ws → length (laidBack ws ls) ≡ length ws
-  unfolding laidBack
-  length-laid-back h =
-      omega (
-        arith,
-        length-append (layOut (nOf ws) ls) (drop (need (nOf ws)) ws),
-        length-lay-out (nOf ws) ls (sound-firm (nOf ws) ls t),
-        length-drop (need (nOf ws)) ws,
-      )
 
 -- a sound image is its heap laid out, and the later words
 pub image-words : (ws : List ℕ) → SoundImage ws → ws ≡ layOut (nOf ws) (heapOf ws) ++ drop (need (nOf ws)) ws

@@ -16,7 +16,7 @@ use Rattle.plain.specs.Lists.{Every, pad}
 use Rattle.rules.specs.Firm.{ValidU, Chain, Ends, Firm}
 use Rattle.rules.specs.Queue.{push}
 use Rattle.layout.specs.Words.{word, unword, words, unwords}
-use Rattle.layout.specs.Image.{HEAD, ROW, stackWords, elementsFrom, stackFrom, workFrom, rowWords, elementWords, stack, need, headWords, layOut, updatesBelow, readLevels, readOut}
+use Rattle.layout.specs.Image.{HEAD, ROW, stackWords, elementsFrom, stackFrom, workFrom, rowWords, elementWords, stack, need, headWords, layOut, updatesBelow, readLevels, readOut, Roomy}
 use Rattle.rules.specs.Sound.{Sound, stacked}
 use Rattle.layout.specs.SoundImage.{SoundImage}
 use Rattle.rules.proofs.Room.{room}
@@ -50,6 +50,14 @@ pub unwords-words : (n : ℕ) (us : List Update) → Every (ValidU n) us → unw
 unwords-words n [] v = refl
 unwords-words n (u ∷ us) v = rw (unword-word n u (v .0), unwords-words n us (v .1)) refl
 
+pub unwords-append : (xs ys : List ℕ) → unwords (xs ++ ys) ≡ unwords xs ++ unwords ys
+unwords-append [] ys = refl
+unwords-append (x ∷ xs) ys = ap (λ (l : List Update). unword x ∷ l) (unwords-append xs ys)
+
+pub words-append : (us vs : List Update) → words (us ++ vs) ≡ words us ++ words vs
+words-append [] vs = refl
+words-append (u ∷ us) vs = ap (λ (l : List ℕ). word u ∷ l) (words-append us vs)
+
 pub length-words : (us : List Update) → length (words us) ≡ length us
 length-words [] = refl
 length-words (u ∷ us) = ap suc (length-words us)
@@ -69,6 +77,10 @@ updates-below-rows (l ∷ ls) rest = omega (arith, updates-below-rows ls rest, l
 
 -- ---- the levels
 
+pub rows-append : (ks ls : List Level) → rowWords (ks ++ ls) ≡ rowWords ks ++ rowWords ls
+rows-append [] ls = refl
+rows-append (k ∷ ks) ls = ap (λ (r : List ℕ). k .bound ∷ length (k .elements) ∷ length (k .updates) ∷ r) (rows-append ks ls)
+
 module _ (Z : ℕ → ℕ → Type 0) (n : ℕ) where
   pub read-lay-out-levels : (f i : ℕ) (ls : List Level) (r e u : List ℕ) → Chain Z n f i ls
       → readLevels (length ls) i (rowWords ls ++ r) (elementWords i ls ++ e) (stack ls ++ u) ≡ ls
@@ -87,18 +99,22 @@ module _ (Z : ℕ → ℕ → Type 0) (n : ℕ) where
 
 -- ---- the image
 
-pub length-elements : (Z : ℕ → ℕ → Type 0) (n f i e : ℕ) (ls : List Level) → e ≡ i + length ls → Chain Z n f i ls → length (elementWords i ls) + 2 ^ i ≡ 2 ^ e
-length-elements Z n f i e [] q c =
+pub length-area : (i e : ℕ) (ls : List Level) → e ≡ i + length ls → Roomy i ls → length (elementWords i ls) + 2 ^ i ≡ 2 ^ e
+length-area i e [] q c =
     let q′ : e ≡ i = omega arith in
     rw q′ (omega arith)
-length-elements Z n f i e (l ∷ ls) q c =
+length-area i e (l ∷ ls) q c =
     omega (
       arith,
-      length-elements Z n (suc (l .bound)) (suc i) e ls (omega arith) (c .1),
+      length-area (suc i) e ls (omega arith) (c .1),
       pow-suc 2 i,
       length-append (pad (2 ^ i) (l .elements)) (elementWords (suc i) ls),
-      length-pad (2 ^ i) (l .elements) (c .0 .room),
+      length-pad (2 ^ i) (l .elements) (c .0),
     )
+
+pub roomy : (Z : ℕ → ℕ → Type 0) (n f i : ℕ) (ls : List Level) → Chain Z n f i ls → Roomy i ls
+roomy Z n f i [] c = tt
+roomy Z n f i (l ∷ ls) c = (c .0 .room, roomy Z n (suc (l .bound)) (suc i) ls (c .1))
 
 pub length-stack : (ls : List Level) → length (stack ls) ≡ stacked ls
 length-stack [] = refl
@@ -127,7 +143,7 @@ module _ (n : ℕ) (ls : List Level) (s : Firm n ls) where
   stack-fits = omega (arith, stack-le ls, room n ls s)
 
   pub elements-size : length (elementWords 0 ls) + 1 ≡ 2 ^ L
-  elements-size = length-elements (Ends n) n 0 0 L ls (omega (arith, s .size)) (s .chain)
+  elements-size = length-area 0 L ls (omega (arith, s .size)) (roomy (Ends n) n 0 0 ls (s .chain))
 
   pub rows-size : length (rowWords ls) ≡ ROW * L
   rows-size = omega (arith, length-rows ls, s .size)
@@ -180,10 +196,6 @@ pub lay-out-unique : (n : ℕ) (ls ks : List Level) → Firm n ls → Firm n ks 
 lay-out-unique n ls ks s t e = sym (read-lay-out n ls s []) ∙ ap (λ (w : List ℕ). readOut n (w ++ [])) e ∙ read-lay-out n ks t []
 
 -- ---- A PUSH CHANGES THREE WORDS: word 2, level 0's update count, and the stack's first free word
-
-pub words-append : (us vs : List Update) → words (us ++ vs) ≡ words us ++ words vs
-words-append [] vs = refl
-words-append (u ∷ us) vs = ap (λ (l : List ℕ). word u ∷ l) (words-append us vs)
 
 pub zeros : (k : ℕ) → 0 < k → replicate {A = ℕ} k 0 ≡ 0 ∷ replicate (k - 1) 0
 zeros zero h = absurd (omega arith)

@@ -5,9 +5,8 @@ use mathlib.Core.Logic.{inl, inr}
 use mathlib.Core.List.{List}
 use mathlib.Core.Path.{_≡_, refl, sym, ap, _∙_}
 use native.Mathlib.Omega.{arith}
-use lib.Pow.{pow-mono}
+use lib.Pow.{pow-mono, pow-pos}
 use Rattle.rules.specs.Pair.{InRange, levels}
-use Rattle.rules.proofs.Refill.{pos-pow}
 use Rattle.rules.proofs.Soundness.{levels-least}
 use Rattle.layout.specs.Image.{need}
 use Rattle.layout.specs.SoundImage.{nOf, SoundImage, SMALLEST, TooShort, Verdict, tooShort, notSound, good, Judged}
@@ -15,7 +14,7 @@ use Rattle.layout.specs.Calls.{Outcome, ByVerdict}
 
 -- "Needed in all: 5 + 3L + 2^L + 4n words."
 pub need-is : (n : ℕ) → need n ≡ 5 + 3 * levels n + 2 ^ levels n + 4 * n
-need-is n = omega (arith, pos-pow (levels n))
+need-is n = omega (arith, pow-pos (levels n))
 
 pub need-low : (n : ℕ) → InRange n → SMALLEST ≤ need n
 need-low n r =

@@ -4,7 +4,7 @@
 --   layOut                               the words of a heap               readOut  the heap of any words
 -- Laws: `need-is`, `length-lay-out`, `read-lay-out` (there and back), `lay-out-unique`.
 -- Assumes nothing.
-use Prim.Native.Nat.{ℕ, zero, suc, _+_, _-_, _*_, _^_}
+use Prim.Native.Nat.{ℕ, zero, suc, _+_, _-_, _*_, _^_, _≤_}
 use mathlib.Core.List.{List, [], _∷_, _++_}
 use lib.ListN.{length, take, drop, getD, replicate}
 use Rattle.plain.specs.Lists.{pad}
@@ -54,6 +54,11 @@ rowWords (l ∷ ls) = l .bound ∷ length (l .elements) ∷ length (l .updates) 
 abbrev pub elementWords : ℕ → List Level → List ℕ
 elementWords i [] = []
 elementWords i (l ∷ ls) = pad (2 ^ i) (l .elements) ++ elementWords (suc i) ls
+
+-- each level has room for its elements, from level i on
+abbrev pub Roomy : ℕ → List Level → Type 0
+Roomy i [] = Unit {0}
+Roomy i (l ∷ ls) = (length (l .elements) ≤ 2 ^ i) × Roomy (suc i) ls
 
 -- "the deepest level's updates first, level 0's last, no gaps"
 abbrev pub stack : List Level → List ℕ

@@ -17,6 +17,10 @@ kindIn (sink p) = 3
 abbrev pub word : Update → ℕ
 word u = kindIn u * OPEN + pairIn u
 
+-- a pair with this added is the word of its Sink
+abbrev pub SINK : ℕ
+SINK = 3 * OPEN
+
 abbrev pub words : List Update → List ℕ
 words [] = []
 words (u ∷ us) = word u ∷ words us

@@ -2,16 +2,16 @@
 -- Assumes nothing.
 use Prim.Native.Nat.{ℕ, zero, suc, _+_, _-_, _<_, _≤_}
 use mathlib.Core.Bool.{Bool, true, false}
-use mathlib.Core.Path.{_≡_, refl, sym, ap, _∙_}
+use mathlib.Core.Path.{_≡_, refl, ap, _∙_}
 use mathlib.Core.List.{List, [], _∷_, _++_, append-assoc}
 use native.Mathlib.Omega.{arith}
 use borrow.Author.Tests.{eqb-false, ltb-true, ltb-false}
 use lib.Dec.{ltb, eqb}
-use lib.ListN.{length, getD, take, drop, replicate, length-append, length-replicate, replicate-append-replicate}
-use lib.Seq.{sets, take-at, take-take}
+use lib.ListN.{length, getD, take, replicate, length-append, length-replicate, replicate-append-replicate}
+use lib.Seq.{sets}
 use Rattle.plain.specs.Lists.{Every, pad}
 use Rattle.lists.specs.Put.{part, put-append, put-comm}
-use Rattle.lists.specs.Part.{put-over, part-put-same}
+use Rattle.lists.specs.Part.{put-over, part-put-same, part-put-behind}
 use Rattle.rules.specs.Pair.{idOf}
 use Rattle.rules.specs.Update.{absent, held, Update}
 use Rattle.rules.specs.Sound.{Asc}
@@ -49,18 +49,15 @@ pub desk-turn : (xs W Q F F′ : List ℕ) (at k area n : ℕ) → length W ≡ 
 desk-turn xs W Q F F′ at k area n e h f f′ =
     rw (← put-comm Q (pad n F) (sets xs at W) (at + k) area h, area-over (sets (sets xs at W) (at + k) Q) F F′ area n f f′, put-append W Q xs at, e)
 
--- what a padded area holds
-pub part-pad : (ys F : List ℕ) (a n : ℕ) → length F ≤ n → a + n ≤ length ys → part (sets ys a (pad n F)) a (length F) ≡ F
-part-pad ys F a n h k =
-    let l : length (pad n F) ≡ n = length-pad n F h in
-    let p : part (sets ys a (pad n F)) a n ≡ pad n F = part-put-same (pad n F) ys a n l k in
-    sym (take-take (length F) n (drop a (sets ys a (pad n F))) h) ∙ ap (take (length F)) p ∙ take-at F (replicate (n - length F) 0) (length F) refl
+-- what a padded area holds, however little it is padded
+pub part-pad : (xs F : List ℕ) (a n : ℕ) → a + length F ≤ length xs → part (sets xs a (pad n F)) a (length F) ≡ F
+part-pad xs F a n h =
+    let R : List ℕ = replicate (n - length F) 0 in
+    ap (λ (l : List ℕ). part l a (length F)) (put-append F R xs a)
+    ∙ part-put-behind R (sets xs a F) (a + length F) a (length F) (omega arith)
+    ∙ part-put-same F xs a (length F) refl h
 
--- ---- the words of updates: two runs of them, the first of them, one of them
-
-pub unwords-append : (us vs : List ℕ) → unwords (us ++ vs) ≡ unwords us ++ unwords vs
-unwords-append [] vs = refl
-unwords-append (u ∷ us) vs = ap (λ (l : List Update). unword u ∷ l) (unwords-append us vs)
+-- ---- the words of updates: the first of them, one of them
 
 pub every-front : (P : Update → Type 0) (l : List ℕ) (j c : ℕ) → j ≤ c → Every P (unwords (take c l)) → Every P (unwords (take j l))
 every-front P l zero c h v = tt

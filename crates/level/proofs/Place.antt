@@ -23,7 +23,7 @@ use Rattle.rules.specs.Pair.{IDS, idOf}
 use Rattle.rules.specs.Update.{Held, absent, held}
 use Rattle.rules.specs.Sound.{Asc}
 use Rattle.rules.specs.Step.{find, cells, put}
-use Rattle.rules.proofs.Level.{asc-find, asc-floor, find-id}
+use Rattle.rules.proofs.Level.{asc-find, asc-floor, find-id, none-before}
 use Rattle.rules.proofs.Sort.{every-at}
 use Rattle.rules.proofs.Refill.{found}
 use Rattle.level.specs.Place.{place, StepsOver}
@@ -38,10 +38,6 @@ module _ (y : ℕ) where
   abbrev behind : ℕ → Bool
   behind p = ltb y (idOf p)
 
-  none-before : (f : ℕ) (E : List ℕ) → y ≤ f → Asc f E → sift before E ≡ []
-  none-before f [] h a = refl
-  none-before f (p ∷ E) h a = rw (le-ltb (idOf p) y (omega (arith, a .0))) (none-before (suc (idOf p)) E (omega (arith, a .0)) (a .1))
-
   all-behind : (f : ℕ) (E : List ℕ) → y < f → Asc f E → sift behind E ≡ E
   all-behind f [] h a = refl
   all-behind f (p ∷ E) h a = rw (lt-ltb y (idOf p) (omega (arith, a .0))) (ap (λ (l : List ℕ). p ∷ l) (all-behind (suc (idOf p)) E (omega (arith, a .0)) (a .1)))
@@ -54,7 +50,7 @@ module _ (y : ℕ) where
 
   place-zero : (f : ℕ) (E : List ℕ) → y ≤ f → Asc f E → place y E ≡ 0
   unfolding place
-  place-zero f E h a = ap length (none-before f E h a)
+  place-zero f E h a = ap length (none-before y f E h a)
 
   pub place-le : (E : List ℕ) → place y E ≤ length E
   unfolding place
@@ -93,14 +89,14 @@ module _ (y : ℕ) where
           rw (e, ne-eqb (idOf p) y (λ g. omega arith), le-ltb y (idOf p) (omega arith)) (ap (λ (l : List ℕ). p ∷ l) r)
       go false true e d r =
           let l = eqb-true (idOf p) y d in
-          rw (e, d, le-ltb y (idOf p) (omega arith), none-before (suc (idOf p)) E (omega arith) (a .1), all-behind (suc (idOf p)) E (omega arith) (a .1)) refl
+          rw (e, d, le-ltb y (idOf p) (omega arith), none-before y (suc (idOf p)) E (omega arith) (a .1), all-behind (suc (idOf p)) E (omega arith) (a .1)) refl
       go false false e d r =
           let l : y < idOf p = omega (arith, ltb-false (idOf p) y e, eqb-false (idOf p) y d) in
           rw (
             e,
             d,
             lt-ltb y (idOf p) l,
-            none-before (suc (idOf p)) E (omega arith) (a .1),
+            none-before y (suc (idOf p)) E (omega arith) (a .1),
             asc-find y (suc (idOf p)) E (omega arith) (a .1),
             all-behind (suc (idOf p)) E (omega arith) (a .1),
           ) refl

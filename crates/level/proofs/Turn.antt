@@ -2,6 +2,7 @@
 --   take-snoc, step-alone        one update more, and one alone       Going        the words after j updates
 --   going-ready                  the next can be taken                going-on     it was
 --   going-starts, going-ends     before the first, behind the last
+--   valid-at, asc-at, fits-at    the elements after i updates         own-id       the update at j is of an id below n
 -- Assumes nothing.
 use Prim.Native.Nat.{ℕ, _+_, _-_, _%_, _<_, _≤_}
 use mathlib.Core.Path.{_≡_, refl, sym, ap, _∙_}
@@ -24,11 +25,11 @@ use Rattle.rules.proofs.Refill.{asc-length}
 use Rattle.rules.proofs.Tally.{tally-append}
 use Rattle.rules.proofs.Beyond.{passed-few}
 use Rattle.layout.specs.Words.{unword, words, unwords}
-use Rattle.layout.proofs.Image.{pair-unword, length-words, words-append}
+use Rattle.layout.proofs.Image.{pair-unword, length-words, words-append, unwords-append}
 use Rattle.level.specs.declared.Counts.{Counts}
 use Rattle.level.specs.Step.{step, Ready, Took}
 use Rattle.level.specs.Run.{Desk, taken, TookAll}
-use Rattle.level.proofs.Pads.{desk-turn, part-pad, unwords-append, every-front, every-word, room-for}
+use Rattle.level.proofs.Pads.{desk-turn, part-pad, every-front, every-word, room-for}
 
 -- ---- a level takes one update more
 
@@ -80,14 +81,23 @@ module _ {xs : List ℕ} {area m n at count : ℕ} (d : Desk xs area m n at coun
   }
 
   -- the elements after i updates: pairs of ids below n in ascending id, so no more than n
-  valid-at : (i : ℕ) → i ≤ count → Every (Valid n) (taken xs area m at b i .elements)
+  pub valid-at : (i : ℕ) → i ≤ count → Every (Valid n) (taken xs area m at b i .elements)
   valid-at i h = valid-take n b (part xs area m) (unwords (part xs at i)) (d .valid) (every-front (ValidU n) (drop at xs) i count h (d .updates)) .0
 
-  asc-at : (i : ℕ) → Asc 0 (taken xs area m at b i .elements)
+  pub asc-at : (i : ℕ) → Asc 0 (taken xs area m at b i .elements)
   asc-at i = asc-take b (part xs area m) (unwords (part xs at i)) (d .ascends)
 
-  fits-at : (i : ℕ) → i ≤ count → length (taken xs area m at b i .elements) ≤ n
+  pub fits-at : (i : ℕ) → i ≤ count → length (taken xs area m at b i .elements) ≤ n
   fits-at i h = omega (arith, asc-length n 0 (taken xs area m at b i .elements) (omega arith) (asc-at i) (valid-at i h))
+
+  -- the update at j is of an id below n
+  pub own-id : (j : ℕ) → j < count → idOf (getD xs (at + j) 0 % OPEN) < n
+  own-id j h =
+      let w = getD xs (at + j) 0 in
+      let c : length (part xs at count) ≡ count = length-part xs at count (omega (arith, d .fits, d .below)) in
+      let v : ValidU n (unword (getD (part xs at count) j 0)) = every-word (ValidU n) (part xs at count) j (omega arith) (d .updates) in
+      let v′ : ValidU n (unword w) = rw (← getD-part xs at count j h) v in
+      rw (← pair-unword w) (v′ .0 .0)
 
   module _ {j : ℕ} {ys : List ℕ} {e k x : ℕ} (g : Going xs area m n at b j ys e k x) where
     abbrev F : List ℕ
@@ -137,14 +147,10 @@ module _ {xs : List ℕ} {area m n at count : ℕ} (d : Desk xs area m n at coun
       fitting = fits-at j (omega arith)
 
       stands : part ys area e ≡ F
-      stands = rw (g .elements, g .words) (part-pad X F area n fitting (simp length-sets (d .fits)))
+      stands = rw (g .elements, g .words) (part-pad X F area n (simp length-sets (omega (arith, fitting, d .fits))))
 
-      own-id : idOf (w % OPEN) < n
-      own-id =
-          let c : length (part xs at count) ≡ count = length-part xs at count (omega (arith, d .fits, d .below)) in
-          let v : ValidU n (unword (getD (part xs at count) j 0)) = every-word (ValidU n) (part xs at count) j (omega arith) (d .updates) in
-          let v′ : ValidU n (unword w) = rw (word, ← getD-part xs at count j h) v in
-          rw (← pair-unword w) (v′ .0 .0)
+      id-below : idOf (w % OPEN) < n
+      id-below = rw word (own-id j h)
 
       pub going-ready : Ready ys area e (at + k) (w % OPEN)
       going-ready = record {
@@ -155,7 +161,7 @@ module _ {xs : List ℕ} {area m n at count : ℕ} (d : Desk xs area m n at coun
         };
         pair = omega arith;
         below = omega (arith, d .below, g .behind);
-        room = λ f. omega (arith, same, g .elements, d .fits, room-for n (idOf (w % OPEN)) 0 F (omega arith) own-id (asc-at j) (valid-at j (omega arith)) (rw stands at f));
+        room = λ f. omega (arith, same, g .elements, d .fits, room-for n (idOf (w % OPEN)) 0 F (omega arith) id-below (asc-at j) (valid-at j (omega arith)) (rw stands at f));
       }
 
       -- one update more

@@ -1,7 +1,7 @@
 // One level takes its updates, in order, in place. The level's elements stand in a work area, its updates below it; what it passes on is written
 // over the updates from their first word on, since one update passes on at most one word.
 ghost use mathlib.Core.Path.{_≡_};
-ghost use Prim.Native.Nat.{_+_, _%_, _<_, _≤_, min};
+ghost use Prim.Native.Nat.{_+_, _%_, _<_, _≤_};
 ghost use lib.ListN.{length};
 ghost use Rattle.lists.specs.Put.{part};
 ghost use Rattle.rules.specs.Pair.{IDS, OPEN};
@@ -66,13 +66,6 @@ fn pair_at(img: &[u64], area: usize, m: usize, k: usize, y: u64) -> u64
     q
 }
 
-// The smaller of two pairs: that of the smaller cost, and of equal costs that of the smaller id.
-fn lesser(a: u64, b: u64) -> u64
-    ensures { λ r. ⌜ r ≡ min a b ⌝ }
-{
-    if a < b { a } else { b }
-}
-
 // "Delete: drop the id here if present; pass the Delete" on. It goes on as it came, whatever its key.
 fn take_delete(img: &mut [u64], area: usize, m: usize, to: usize, p: u64) -> Counts
     requires { ⌜ Ready (now img) area m to p ⌝ }
@@ -109,7 +102,7 @@ fn take_decrease(img: &mut [u64], area: usize, m: usize, to: usize, p: u64, boun
     let k = find_place(img, area, m, y);
     let q = pair_at(img, area, m, k, y);
     if q < Pair::OPEN {
-        img[area + k] = lesser(q, p);
+        img[area + k] = Pair::lesser(q, p);
         return Counts {
             elements: m,
             passed: 0,

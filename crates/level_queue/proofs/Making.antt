@@ -2,11 +2,11 @@
 -- Assumes nothing.
 use Prim.Native.Nat.{ℕ, _<_, _≤_}
 use mathlib.Core.Logic.{_≢_}
-use mathlib.Core.List.{List, _++_}
+use mathlib.Core.List.{List}
 use mathlib.Core.Path.{_≡_, refl, sym, ap, _∙_}
 use native.Mathlib.Omega.{arith}
 use borrow.Author.Tests.{eq-eqb, ne-eqb}
-use lib.ListN.{length, getD, drop}
+use lib.ListN.{length, getD}
 use Rattle.rules.specs.Pair.{KEYS, pairOf}
 use Rattle.rules.specs.Update.{Update, decrease, delete}
 use Rattle.rules.specs.Heap.{Level, waiting}
@@ -17,9 +17,8 @@ use Rattle.rules.specs.Firm.{ValidU}
 use Rattle.rules.specs.Session.{Asked}
 use Rattle.rules.proofs.Soundness.{make-room-sound}
 use Rattle.layout.specs.Words.{word, unword}
-use Rattle.layout.specs.Image.{need, layOut}
 use Rattle.layout.specs.SoundImage.{nOf, heapOf, laidBack, SoundImage, SMALLEST}
-use Rattle.layout.specs.Calls.{Outcome, pushCall}
+use Rattle.layout.specs.Calls.{pushCall}
 use Rattle.layout.proofs.Image.{unword-word}
 use Rattle.layout.proofs.Verdict.{need-low}
 use Rattle.layout.proofs.Back.{n-laid-back, heap-laid-back, sound-laid-back, later-laid-back, image-laid-back, word-two}

@@ -1,20 +1,20 @@
 -- Each way out of an outward call is the case of its definition that the tests before it leave.
 -- Assumes nothing.
 use Prim.Native.Nat.{ℕ, _<_, _≤_}
-use mathlib.Core.Bool.{cond, _||_}
+use mathlib.Core.Bool.{cond}
 use mathlib.Core.Logic.{_≢_}
 use mathlib.Core.List.{List, _++_}
 use mathlib.Core.Path.{_≡_, refl, sym, ap, _∙_}
 use native.Mathlib.Omega.{arith}
 use borrow.Author.Tests.{le-leb, lt-leb, lt-ltb, le-ltb, eq-eqb, ne-eqb}
-use lib.Dec.{leb, ltb, eqb}
+use lib.Dec.{leb}
 use lib.ListN.{length, drop}
 use Rattle.rules.specs.Pair.{IDS, KEYS, pairOf, levels}
 use Rattle.rules.specs.Update.{Held, absent, held, decrease, delete}
 use Rattle.rules.specs.Queue.{fresh, deleteMin}
 use Rattle.layout.specs.Image.{need, layOut}
 use Rattle.layout.specs.SoundImage.{nOf, heapOf, laidBack, SoundImage, Verdict, tooShort, notSound, good, Judged}
-use Rattle.layout.specs.Calls.{taken, refused, Outcome, refuse, freshCall, judgedCall, pushCall, decreaseCall, deleteCall, replyOf, deleteMinCall, ByVerdict}
+use Rattle.layout.specs.Calls.{taken, Outcome, refuse, freshCall, judgedCall, pushCall, decreaseCall, deleteCall, replyOf, deleteMinCall, ByVerdict}
 use Rattle.sound.specs.Answer.{numberOf}
 use Rattle.delete_min.specs.declared.Popped.{Popped}
 use Rattle.delete_min.specs.Takes.{popped, Takes}
@@ -42,9 +42,6 @@ good-number ws k r e = go (r .0) (r .1) (r .2)
     go tooShort j q = absurd (omega arith)
     go notSound j q = absurd (omega arith)
     go good j q = j
-
-by-good : (ws : List ℕ) (on o : Outcome) → SoundImage ws → o ≡ on → ByVerdict ws (λ v. judgedCall v ws on) o
-by-good ws on o s e = (good, s, e)
 
 -- ---- Decrease-Key
 

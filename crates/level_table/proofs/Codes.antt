@@ -2,7 +2,7 @@
 --   table-cons, table-put     one element more, one put anew        table-none   of no elements
 --   getD-table                a word of it                          squeezed-table   the elements again
 -- Assumes nothing.
-use Prim.Native.Nat.{ℕ, zero, suc, _+_, _<_, _≤_}
+use Prim.Native.Nat.{ℕ, zero, suc, _+_, _<_}
 use mathlib.Core.Bool.{Bool, true, false}
 use mathlib.Core.Logic.{_≢_}
 use mathlib.Core.Path.{_≡_, refl, sym, ap, _∙_}
@@ -13,7 +13,7 @@ use native.Mathlib.Omega.{arith}
 use borrow.Author.Tests.{eqb-true, eqb-false, eq-eqb, ne-eqb, ltb-true, ltb-false, lt-ltb, le-ltb}
 use lib.Dec.{ltb, eqb}
 use lib.ListN.{length, getD, set, replicate, replicate-append-replicate}
-use lib.Seq.{sets, set-set, set-at, set-append-left, getD-set-same}
+use lib.Seq.{sets, set-set, set-at, set-append-left}
 use Rattle.plain.specs.Lists.{Every, keep, sift}
 use Rattle.lists.specs.Put.{set-put-before}
 use Rattle.rules.specs.Pair.{idOf}
@@ -23,9 +23,9 @@ use Rattle.rules.specs.Sound.{Asc}
 use Rattle.rules.specs.Step.{whenHeld, find, cells, put}
 use Rattle.rules.specs.Rebuild.{gather}
 use Rattle.rules.specs.Firm.{Valid}
-use Rattle.rules.proofs.Level.{asc-find, find-put-own, find-put}
+use Rattle.rules.proofs.Level.{asc-find, find-put-own, find-put, none-before}
 use Rattle.tidy_parts.specs.Marks.{code, codes, squeezed}
-use Rattle.tidy_parts.proofs.Reading.{length-codes}
+use Rattle.tidy_parts.proofs.Reading.{length-codes, getD-codes}
 use Rattle.tidy_parts.proofs.Squeezing.{squeezed-codes}
 use Rattle.level_table.specs.Table.{table}
 
@@ -61,11 +61,8 @@ codes-set (suc n) f g y l h = go (eqb y n) refl (λ k. codes-set n f g y k h)
 pub length-table : (n : ℕ) (E : List ℕ) → length (table n E) ≡ n
 length-table n E = length-codes n (λ x. find x E)
 
--- what is stored again is there
 pub getD-table : (n : ℕ) (E : List ℕ) (y : ℕ) → y < n → getD (table n E) y 0 ≡ code (find y E)
-getD-table n E y l =
-    let f : ℕ → Held = λ x. find x E in
-    ap (λ (t : List ℕ). getD t y 0) (sym (codes-set n f f y l (λ x d. refl))) ∙ getD-set-same (table n E) y (code (find y E)) 0 (omega (arith, length-table n E))
+getD-table n E y l = getD-codes n (λ x. find x E) y l
 
 pub table-none : (n : ℕ) → table n [] ≡ replicate n 0
 table-none zero = refl
@@ -86,11 +83,6 @@ table-put n y h E l o a =
 
 -- ---- the elements again
 
--- none of those from n on is below n
-sift-none : (n f : ℕ) (E : List ℕ) → n ≤ f → Asc f E → sift (λ p. ltb (idOf p) n) E ≡ []
-sift-none n f [] h a = refl
-sift-none n f (p ∷ E) h a = rw (le-ltb (idOf p) n (omega (arith, a .0))) (sift-none n (suc (idOf p)) E (omega (arith, a .0)) (a .1))
-
 sift-all : (n : ℕ) (E : List ℕ) → Every (Valid n) E → sift (λ p. ltb (idOf p) n) E ≡ E
 sift-all n [] v = refl
 sift-all n (p ∷ E) v = rw (lt-ltb (idOf p) n (v .0 .0), sift-all n E (v .1)) refl
@@ -107,14 +99,14 @@ sift-more n f (p ∷ E) a = go (ltb (idOf p) n) (eqb (idOf p) n) refl refl (sift
         rw (lt-ltb (idOf p) (suc n) (omega (arith, ltb-true (idOf p) n e))) (ap (λ (l : List ℕ). p ∷ l) r)
     go false true e d r =
         let q = eqb-true (idOf p) n d in
-        rw (lt-ltb (idOf p) (suc n) (omega arith), sift-none n (suc (idOf p)) E (omega arith) (a .1), sift-none (suc n) (suc (idOf p)) E (omega arith) (a .1)) refl
+        rw (lt-ltb (idOf p) (suc n) (omega arith), none-before n (suc (idOf p)) E (omega arith) (a .1), none-before (suc n) (suc (idOf p)) E (omega arith) (a .1)) refl
     go false false e d r =
         let q = eqb-false (idOf p) n d in
         let g = ltb-false (idOf p) n e in
-        rw (le-ltb (idOf p) (suc n) (omega arith), sift-none n (suc (idOf p)) E (omega arith) (a .1), sift-none (suc n) (suc (idOf p)) E (omega arith) (a .1), asc-find n (suc (idOf p)) E (omega arith) (a .1)) refl
+        rw (le-ltb (idOf p) (suc n) (omega arith), none-before n (suc (idOf p)) E (omega arith) (a .1), none-before (suc n) (suc (idOf p)) E (omega arith) (a .1), asc-find n (suc (idOf p)) E (omega arith) (a .1)) refl
 
 gather-sift : (n f : ℕ) (E : List ℕ) → Asc f E → gather n (λ x. find x E) ≡ sift (λ p. ltb (idOf p) n) E
-gather-sift zero f E a = sym (sift-none 0 f E (omega arith) a)
+gather-sift zero f E a = sym (none-before 0 f E (omega arith) a)
 gather-sift (suc n) f E a = rw (gather-sift n f E a) (sift-more n f E a)
 
 pub squeezed-table : (n : ℕ) (E : List ℕ) → Asc 0 E → Every (Valid n) E → squeezed (table n E) ≡ E

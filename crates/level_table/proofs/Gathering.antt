@@ -3,7 +3,7 @@
 -- Assumes nothing.
 use Prim.Native.Nat.{ℕ, zero, suc, _+_, _-_, _<_, _≤_}
 use mathlib.Core.Path.{_≡_, refl, sym, ap, _∙_}
-use mathlib.Core.List.{List, [], _∷_, _++_, append-assoc, append-nil}
+use mathlib.Core.List.{List, [], _∷_, _++_, append-assoc}
 use native.Mathlib.Omega.{arith}
 use lib.ListN.{length, getD, set, replicate, length-append, replicate-append-replicate}
 use lib.Seq.{sets, set-set, set-getD}
@@ -13,7 +13,7 @@ use Rattle.rules.specs.Update.{Held, absent, held}
 use Rattle.rules.specs.Step.{cells}
 use Rattle.layout.proofs.Image.{length-pad}
 use Rattle.tidy_parts.specs.Marks.{uncode, squeezed}
-use Rattle.tidy_parts.proofs.Squeezing.{squeeze-few}
+use Rattle.tidy_parts.proofs.Squeezing.{squeeze-few, squeezed-snoc}
 use Rattle.level_table.specs.Table.{GathersOne, Gathers}
 
 -- ---- one word
@@ -30,10 +30,6 @@ gather-some xs from to (suc p) e h =
     rw m (record { number = rw (← e) refl; words = rw (← e) refl })
 
 -- ---- a turn
-
-squeezed-snoc : (vs : List ℕ) (w : ℕ) → squeezed (vs ++ (w ∷ [])) ≡ squeezed vs ++ cells (uncode w)
-squeezed-snoc [] w = append-nil (cells (uncode w))
-squeezed-snoc (v ∷ vs) w = ap (λ (l : List ℕ). cells (uncode v) ++ l) (squeezed-snoc vs w) ∙ sym (append-assoc (cells (uncode v)) (squeezed vs) (cells (uncode w)))
 
 -- what is stored at the first of some zeros
 zeros-over : (h : Held) (xs : List ℕ) (i t : ℕ) → 0 < t → sets (sets xs i (replicate t 0)) i (cells h) ≡ sets xs i (cells h ++ replicate (t - length (cells h)) 0)

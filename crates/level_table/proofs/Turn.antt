@@ -7,26 +7,22 @@ use Prim.Native.Nat.{ℕ, _+_, _-_, _%_, _<_, _≤_}
 use mathlib.Core.Path.{_≡_, refl, sym, ap, _∙_, subst}
 use mathlib.Core.List.{List, [], _∷_, append-nil}
 use native.Mathlib.Omega.{arith}
-use lib.ListN.{length, getD, set, drop, replicate, length-append, length-replicate}
+use lib.ListN.{length, getD, set, replicate, length-append, length-replicate}
 use lib.Seq.{sets, length-sets}
-use Rattle.plain.specs.Lists.{Every, tally, pad}
-use Rattle.lists.specs.Put.{part, length-part, put-append, put-comm, getD-put-before, getD-put-after, getD-put-in}
-use Rattle.lists.specs.Part.{getD-part, put-over, part-put-same, part-put-behind}
+use Rattle.plain.specs.Lists.{tally, pad}
+use Rattle.lists.specs.Put.{part, put-comm, getD-put-before, getD-put-after, getD-put-in}
+use Rattle.lists.specs.Part.{put-over, part-put-same}
 use Rattle.rules.specs.Pair.{OPEN, idOf}
 use Rattle.rules.specs.Update.{Update, idIn, waits}
 use Rattle.rules.specs.Lanes.{OfId}
-use Rattle.rules.specs.Sound.{Asc}
 use Rattle.rules.specs.Step.{find, put, Taken, takeOne, Step}
-use Rattle.rules.specs.Firm.{Valid, ValidU}
-use Rattle.rules.proofs.Level.{asc-take, find-id, of-one}
-use Rattle.rules.proofs.Descent.{valid-take}
-use Rattle.rules.proofs.Refill.{asc-length}
-use Rattle.layout.specs.Words.{unword, words, unwords}
+use Rattle.rules.proofs.Level.{find-id, of-one}
+use Rattle.layout.specs.Words.{unword, words}
 use Rattle.layout.proofs.Image.{pair-unword, length-pad, length-words}
 use Rattle.level.specs.Step.{step, Took}
 use Rattle.level.specs.Run.{Desk, taken, TookAll}
-use Rattle.level.proofs.Pads.{part-pad, every-front, every-word}
-use Rattle.level.proofs.Turn.{step-alone, Going, going-starts, going-on, going-ends}
+use Rattle.level.proofs.Pads.{part-pad}
+use Rattle.level.proofs.Turn.{step-alone, Going, going-starts, going-on, going-ends, valid-at, asc-at, fits-at, own-id}
 use Rattle.tidy_parts.specs.Marks.{code, uncode, squeezed}
 use Rattle.tidy_parts.proofs.Reading.{uncode-code}
 use Rattle.level_table.specs.declared.Moved.{Moved}
@@ -41,14 +37,6 @@ step-is b E u =
     let t = takeOne b (find (idIn u) E) u in
     let w : List Update → Step = λ l. record { elements = put (idIn u) (t .here) E; passed = l } in
     sym (step-alone b E u) ∙ ap w (append-nil (t .passed))
-
--- what a padded area holds, however little it is padded
-part-padded : (xs S : List ℕ) (a c : ℕ) → a + length S ≤ length xs → part (sets xs a (pad c S)) a (length S) ≡ S
-part-padded xs S a c h =
-    let R : List ℕ = replicate (c - length S) 0 in
-    ap (λ (l : List ℕ). part l a (length S)) (put-append S R xs a)
-    ∙ part-put-behind R (sets xs a S) (a + length S) a (length S) (omega arith)
-    ∙ part-put-same S xs a (length S) refl h
 
 -- ---- after j updates: the words of `level` then, k words passed on, x updates ended
 
@@ -69,16 +57,6 @@ desk-laid d = record { fits = d .fits; ascends = d .ascends; valid = d .valid; z
 module _ {xs : List ℕ} {area m n at count : ℕ} (d : Desk xs area m n at count) (b : ℕ) where
   pub tabled-starts : Tabled xs area m n at b 0 (sets xs area (table n (part xs area m))) 0 0
   tabled-starts = record { going = again (going-starts d b); words = refl }
-
-  -- the elements after i updates
-  valid-at : (i : ℕ) → i ≤ count → Every (Valid n) (taken xs area m at b i .elements)
-  valid-at i h = valid-take n b (part xs area m) (unwords (part xs at i)) (d .valid) (every-front (ValidU n) (drop at xs) i count h (d .updates)) .0
-
-  asc-at : (i : ℕ) → Asc 0 (taken xs area m at b i .elements)
-  asc-at i = asc-take b (part xs area m) (unwords (part xs at i)) (d .ascends)
-
-  fits-at : (i : ℕ) → i ≤ count → length (taken xs area m at b i .elements) ≤ n
-  fits-at i h = omega (arith, asc-length n 0 (taken xs area m at b i .elements) (omega arith) (asc-at i) (valid-at i h))
 
   module _ {j : ℕ} {ys : List ℕ} {k x : ℕ} (t : Tabled xs area m n at b j ys k x) where
     abbrev F : List ℕ
@@ -103,13 +81,13 @@ module _ {xs : List ℕ} {area m n at count : ℕ} (d : Desk xs area m n at coun
         → TookAll (record { elements = r; passed = k; ended = x }) xs (sets zs (at + k) (replicate (count - k) 0)) area m n at count b
     tabled-ends i {r} {zs} g =
         let p : part ys area n ≡ table n F = ap (λ (l : List ℕ). part l area n) (t .words) ∙ part-put-same (table n F) X area n C-size (omega (arith, X-size, d .fits)) in
-        let s : squeezed (part ys area n) ≡ F = ap squeezed p ∙ squeezed-table n F (asc-at j) (valid-at j (omega arith)) in
+        let s : squeezed (part ys area n) ≡ F = ap squeezed p ∙ squeezed-table n F (asc-at d b j) (valid-at d b j (omega arith)) in
         let e : r ≡ length F = g .number ∙ ap length s in
         let z : zs ≡ D =
         g .words
         ∙ ap (λ (l : List ℕ). sets ys area (pad n l)) s
         ∙ ap (λ (l : List ℕ). sets l area (pad n F)) (t .words)
-        ∙ put-over (table n F) (pad n F) X area (omega (arith, C-size, length-pad n F (fits-at j (omega arith)))) in
+        ∙ put-over (table n F) (pad n F) X area (omega (arith, C-size, length-pad n F (fits-at d b j (omega arith)))) in
         rw (e, z) (going-ends d b (t .going) i)
 
     module _ (h : j < count) where
@@ -130,15 +108,11 @@ module _ {xs : List ℕ} {area m n at count : ℕ} (d : Desk xs area m n at coun
           ∙ getD-put-before (table n F) X area (at + j) (omega (arith, d .below))
           ∙ getD-put-after (words P) xs at (at + j) (omega (arith, length-words P, t .going .passed, t .going .behind))
 
-      own-id : idOf (w % OPEN) < n
-      own-id =
-          let c : length (part xs at count) ≡ count = length-part xs at count (omega (arith, d .fits, d .below)) in
-          let v : ValidU n (unword (getD (part xs at count) j 0)) = every-word (ValidU n) (part xs at count) j (omega arith) (d .updates) in
-          let v′ : ValidU n (unword w) = rw (own-word, ← getD-part xs at count j h) v in
-          rw (← pair-unword w) (v′ .0 .0)
+      id-below : idOf (w % OPEN) < n
+      id-below = rw own-word (own-id d b j h)
 
       pub tabled-ready : (at + k < area) × (area + idOf (w % OPEN) < length ys)
-      tabled-ready = (omega (arith, d .below, t .going .behind), omega (arith, tabled-size, d .fits, own-id))
+      tabled-ready = (omega (arith, d .below, t .going .behind), omega (arith, tabled-size, d .fits, id-below))
 
       abbrev u : Update
       u = unword w
@@ -157,12 +131,12 @@ module _ {xs : List ℕ} {area m n at count : ℕ} (d : Desk xs area m n at coun
       found-at =
           let e : getD ys (area + y) 0 ≡ code (find y F) =
           ap (λ (l : List ℕ). getD l (area + y) 0) (t .words)
-          ∙ getD-put-in (table n F) X area y (omega (arith, C-size, own-id)) (omega (arith, X-size, own-id, d .fits))
-          ∙ getD-table n F y own-id in
+          ∙ getD-put-in (table n F) X area y (omega (arith, C-size, id-below)) (omega (arith, X-size, id-below, d .fits))
+          ∙ getD-table n F y id-below in
           ap uncode e ∙ uncode-code (find y F) ∙ ap (λ (i : ℕ). find i F) (sym id-is)
 
       stands : part D area (length F) ≡ F
-      stands = part-pad X F area n (fits-at j (omega arith)) (omega (arith, X-size, d .fits))
+      stands = part-pad X F area n (omega (arith, X-size, d .fits, fits-at d b j (omega arith)))
 
       stepped : step b (part D area (length F)) u ≡ record { elements = put (idIn u) (T .here) F; passed = T .passed }
       stepped = ap (λ (l : List ℕ). step b l u) stands ∙ step-is b F u
@@ -197,17 +171,17 @@ module _ {xs : List ℕ} {area m n at count : ℕ} (d : Desk xs area m n at coun
         F′ = taken xs area m at b (j + 1) .elements
 
         fits-next : length F′ ≤ n
-        fits-next = fits-at (j + 1) (omega arith)
+        fits-next = fits-at d b (j + 1) (omega arith)
 
         elements-next : F′ ≡ G
         elements-next =
             let Y : List ℕ = sets xs at (words (taken xs area m at b (j + 1) .passed)) in
             let l : length Y ≡ length xs = length-sets xs at (words (taken xs area m at b (j + 1) .passed)) in
             let q : length (sets D (at + k) W) ≡ length xs = length-sets D (at + k) W ∙ length-sets X area (pad n F) ∙ X-size in
-            sym (part-pad Y F′ area n fits-next (omega (arith, l, d .fits)))
+            sym (part-pad Y F′ area n (omega (arith, l, d .fits, fits-next)))
             ∙ ap (λ (l : List ℕ). part l area (length F′)) (sym (next .words))
             ∙ ap (part D′ area) (sym (next .elements))
-            ∙ part-padded (sets D (at + k) W) G area (length F) (omega (arith, q, next .elements, fits-next, d .fits))
+            ∙ part-pad (sets D (at + k) W) G area (length F) (omega (arith, q, next .elements, fits-next, d .fits))
 
         -- the table over the words of `level`, now and then
         over-next : sets (sets X (at + k) W) area (table n F′) ≡ sets (sets xs at (words (taken xs area m at b (j + 1) .passed))) area (table n F′)
@@ -215,7 +189,7 @@ module _ {xs : List ℕ} {area m n at count : ℕ} (d : Desk xs area m n at coun
             let C : List ℕ = table n F′ in
             let c : length C ≡ n = length-table n F′ in
             let Z : List ℕ = sets X (at + k) W in
-            let f = fits-at j (omega arith) in
+            let f = fits-at d b j (omega arith) in
             let p : length (pad (length F) G) ≤ n =
             omega (arith, length-append G (replicate (length F - length G) 0), length-replicate {A = ℕ} (length F - length G) 0, next .elements, fits-next) in
             let v : at + k + length W ≤ area = omega (arith, length-words (T .passed), r-passed, next .behind, d .below) in
@@ -230,7 +204,7 @@ module _ {xs : List ℕ} {area m n at count : ℕ} (d : Desk xs area m n at coun
             let Z : List ℕ = sets X (at + k) W in
             let h′ : OfId y (T .here) = subst (λ (i : ℕ). OfId i (T .here)) id-is (of-one b (find (idIn u) F) u (find-id (idIn u) F) .1) in
             let g : set (table n F) y (code (T .here)) ≡ table n F′ =
-            table-put n y (T .here) F own-id h′ (asc-at j) ∙ ap (λ (i : ℕ). table n (put i (T .here) F)) (sym id-is) ∙ ap (table n) (sym elements-next) in
+            table-put n y (T .here) F id-below h′ (asc-at d b j) ∙ ap (λ (i : ℕ). table n (put i (T .here) F)) (sym id-is) ∙ ap (table n) (sym elements-next) in
             let v : at + k + length W ≤ area = omega (arith, length-words (T .passed), r-passed, next .behind, d .below) in
             record {
               going = again next;
@@ -238,7 +212,7 @@ module _ {xs : List ℕ} {area m n at count : ℕ} (d : Desk xs area m n at coun
                   r-words
                   ∙ ap (λ (l : List ℕ). set (sets l (at + k) W) (area + y) (code (T .here))) (t .words)
                   ∙ ap (λ (l : List ℕ). set l (area + y) (code (T .here))) (sym (put-comm W (table n F) X (at + k) area v))
-                  ∙ set-put-in (table n F) Z area y (code (T .here)) (omega (arith, C-size, own-id))
+                  ∙ set-put-in (table n F) Z area y (code (T .here)) (omega (arith, C-size, id-below))
                   ∙ ap (sets Z area) g
                   ∙ over-next;
             }

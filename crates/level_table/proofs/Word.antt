@@ -13,6 +13,7 @@ use Rattle.rules.specs.Pair.{idOf}
 use Rattle.rules.specs.Update.{decrease, delete, sink}
 use Rattle.layout.specs.Words.{word}
 use Rattle.tidy_parts.specs.Marks.{code, uncode}
+use Rattle.tidy_parts.proofs.Reading.{code-uncode}
 use Rattle.level_table.specs.declared.Moved.{Moved}
 use Rattle.level_table.specs.Table.{TookWord}
 
@@ -26,12 +27,8 @@ took-any b t = record { passed = t .passed; ended = t .ended; words = t .words }
 -- a word stored elsewhere leaves this one, which may then be stored again
 code-again : (xs : List ℕ) (place to v : ℕ) → to < place → set xs to v ≡ set (set xs to v) place (code (uncode (getD xs place 0)))
 code-again xs place to v h =
-    let e : code (uncode (getD xs place 0)) ≡ getD (set xs to v) place 0 = coded (getD xs place 0) ∙ sym (getD-set-other xs to place v 0 (λ q. omega arith)) in
+    let e : code (uncode (getD xs place 0)) ≡ getD (set xs to v) place 0 = code-uncode (getD xs place 0) ∙ sym (getD-set-other xs to place v 0 (λ q. omega arith)) in
     sym (ap (set (set xs to v) place) e ∙ set-getD (set xs to v) place 0)
-  where
-    coded : (w : ℕ) → code (uncode w) ≡ w
-    coded zero = refl
-    coded (suc w) = refl
 
 module _ (xs : List ℕ) (place to p : ℕ) (b : ℕ) where
   pub decrease-lowers : {q v : ℕ} → q ≡ getD xs place 0 → 0 < q → v ≡ min q (p + 1) → TookWord (moved 0 1) xs (set xs place v) place to b (decrease p)

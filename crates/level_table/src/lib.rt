@@ -1,7 +1,7 @@
 // One level takes many updates by a table: a word for each id in the work area, so that no update looks anything up. The elements become the
 // table in place, each update is taken at the word of its id, and the table becomes the elements again. Few updates are taken as in `level`.
 ghost use mathlib.Core.Path.{_≡_};
-ghost use Prim.Native.Nat.{_+_, _%_, _<_, _≤_, min};
+ghost use Prim.Native.Nat.{_+_, _%_, _<_, _≤_};
 ghost use lib.ListN.{length};
 ghost use lib.Seq.{sets};
 ghost use Rattle.lists.specs.Put.{part};
@@ -37,13 +37,6 @@ fn scatter(img: &mut [u64], area: usize, m: usize, n: usize)
     }
 }
 
-// The smaller of two words.
-fn lesser(a: u64, b: u64) -> u64
-    ensures { λ r. ⌜ r ≡ min a b ⌝ }
-{
-    if a < b { a } else { b }
-}
-
 // "Delete: drop the id here if present; pass the Delete" on. It goes on as it came, whatever its key.
 fn take_delete(img: &mut [u64], place: usize, to: usize, p: u64) -> Moved
     requires { ⌜ Writable (now img) place to p ⌝ }
@@ -65,7 +58,7 @@ fn take_decrease(img: &mut [u64], place: usize, to: usize, p: u64, bound: u64) -
 {
     let q = img[place];
     if 0 < q {
-        img[place] = lesser(q, p + 1);
+        img[place] = Pair::lesser(q, p + 1);
         return Moved {
             passed: 0,
             ended: 1,

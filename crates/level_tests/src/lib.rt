@@ -3,9 +3,9 @@
 ghost use mathlib.Core.Path.{_≡_};
 ghost use Prim.Native.Nat.{_+_, _*_, _/_, _<_, _≤_, _^_};
 ghost use lib.ListN.{length};
-ghost use Rattle.rules.specs.Pair.{OPEN};
+ghost use Rattle.rules.specs.Pair.{OPEN, ROWS};
 ghost use Rattle.rules.specs.Heap.{reading};
-ghost use Rattle.image_clauses.specs.Clauses.{Says, MOST, updateCount, floorOf, areaFrom, LevelWords, LevelsOk, levelsOf};
+ghost use Rattle.image_clauses.specs.Clauses.{Says, updateCount, floorOf, areaFrom, LevelWords, LevelsOk, levelsOf};
 ghost use Rattle.image_clauses.specs.Marks.{Marked, Read};
 ghost use Rattle.image_clauses.specs.Passes.{levelEntries};
 ghost use Rattle.image_clauses.specs.All.{Ready};
@@ -22,7 +22,7 @@ pub fn level_ok(
     at: usize,
     last: &mut [u8],
 ) -> bool
-    requires { ⌜ (i < levels) × (levels ≤ MOST) × (size ≡ 2 ^ i) × (1 ≤ size) × (areaFrom levels i + size ≤ length (now img)) × (at + updateCount (now img) i ≤ length (now img)) × (floorOf (now img) i ≤ OPEN + 1) × (n ≤ length (now last)) ⌝ }
+    requires { ⌜ (i < levels) × (levels ≤ ROWS) × (size ≡ 2 ^ i) × (1 ≤ size) × (areaFrom levels i + size ≤ length (now img)) × (at + updateCount (now img) i ≤ length (now img)) × (floorOf (now img) i ≤ OPEN + 1) × (n ≤ length (now last)) ⌝ }
     ensures { λ r. ⌜ Read (LevelWords (now (img .entry)) n levels i at) r (now (last .entry)) (now (last .exit)) (levelEntries (now (img .entry)) levels i at) ⌝ }
 {
     let row = HEAD + ROW * i;

@@ -56,14 +56,6 @@ part-suc xs i n h =
     let g : n < length (drop i xs) = simp length-drop (omega arith) in
     rw (add-one n, take-suc (drop i xs) n 0, getD-drop)
 
--- a turn of a copy within one list, upwards, the target not above the source
-pub copy-turn : (xs : List ℕ) (to from j : ℕ) → to ≤ from → from + j < length xs
-    → set (sets xs to (part xs from j)) (to + j) (getD (sets xs to (part xs from j)) (from + j) 0) ≡ sets xs to (part xs from (j + 1))
-copy-turn xs to from j h g =
-    let e : length (part xs from j) ≡ j = length-part xs from j (omega arith) in
-    let o : getD (sets xs to (part xs from j)) (from + j) 0 ≡ getD xs (from + j) 0 = getD-put-after (part xs from j) xs to (from + j) (omega arith) in
-    rw (part-suc xs from j g, put-snoc, e, o)
-
 -- what is there, stored again
 pub put-part : (n : ℕ) (xs : List ℕ) (i : ℕ) → i + n ≤ length xs → sets xs i (part xs i n) ≡ xs
 put-part zero xs i h = refl

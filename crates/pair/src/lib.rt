@@ -1,10 +1,10 @@
 // A pair as one word, and an update as one word, with the fixed numbers of both. The meanings are Rattle.rules.specs.Pair and
 // Rattle.layout.specs.Words; a caller's straight-line code needs no proof of its own.
 ghost use mathlib.Core.Path.{_≡_};
-ghost use Prim.Native.Nat.{_/_, _%_, _<_};
+ghost use Prim.Native.Nat.{_/_, _%_, _<_, min};
 ghost use Rattle.rules.specs.Pair.{IDS, KEYS, OPEN, pairOf, keyOf, idOf};
 ghost use Rattle.rules.specs.Update.{decrease, delete, sink};
-ghost use Rattle.layout.specs.Words.{kindIn, word};
+ghost use Rattle.layout.specs.Words.{kindIn, word, SINK};
 
 // "A pair is key x 65,536 + id, so whole numbers compare in the right order."
 pub struct Pair {
@@ -37,6 +37,13 @@ impl Pair {
     {
         p % Pair::IDS
     }
+
+    // The smaller of two: that of the smaller cost, and of equal costs that of the smaller id.
+    pub fn lesser(a: u64, b: u64) -> u64
+        ensures { λ r. ⌜ r ≡ min a b ⌝ }
+    {
+        if a < b { a } else { b }
+    }
 }
 
 // "An update word is kind x 2^56 + pair; kind 1 Decrease, 2 Delete (key 0), 3 Sink."
@@ -50,6 +57,9 @@ impl Update {
     pub const DELETE: u64 = 2;
 
     pub const SINK: u64 = 3;
+
+    // A pair with this added is the word of its Sink.
+    pub const SINK_TAG: u64 = Update::SINK * Pair::OPEN;
 
     pub fn decrease(p: u64) -> u64
         requires { ⌜ p < OPEN ⌝ }
@@ -69,7 +79,7 @@ impl Update {
         requires { ⌜ p < OPEN ⌝ }
         ensures { λ r. ⌜ r ≡ word (sink p) ⌝ }
     {
-        Update::SINK * Pair::OPEN + p
+        Update::SINK_TAG + p
     }
 
     pub fn kind(w: u64) -> u64
@@ -87,7 +97,7 @@ impl Update {
 
 // The fixed numbers of the code are those of the meanings.
 fn numbers_agree()
-    ensures { λ _. do ⌜ ((← ⟦Pair::OPEN⟧ .entry) ≡ OPEN) × ((← ⟦Pair::KEY_LIMIT⟧ .entry) ≡ KEYS) × ((← ⟦Pair::IDS⟧ .entry) ≡ IDS) ⌝ }
+    ensures { λ _. do ⌜ ((← ⟦Pair::OPEN⟧ .entry) ≡ OPEN) × ((← ⟦Pair::KEY_LIMIT⟧ .entry) ≡ KEYS) × ((← ⟦Pair::IDS⟧ .entry) ≡ IDS) × ((← ⟦Update::SINK_TAG⟧ .entry) ≡ SINK) ⌝ }
 {}
 
 // The kinds of the code are those of the meanings, whatever the pair.

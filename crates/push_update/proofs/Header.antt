@@ -1,4 +1,4 @@
--- What the header of a sound image says: words 1, 3, 4, 5 are the levels and the offsets, and the update counts sum up to the stack.
+-- What the header of a sound image says: word 1 is the number of levels, word 4 is where the stack begins, and the update counts sum up to it.
 -- Word 2 is `word-two` (Rattle.layout.proofs.Back).
 -- Assumes nothing.
 use Prim.Native.Nat.{ℕ, _+_, _≤_}
@@ -6,11 +6,11 @@ use mathlib.Core.Path.{_≡_, refl, ap, _∙_}
 use mathlib.Core.List.{List, _++_, append-assoc}
 use native.Mathlib.Omega.{arith}
 use lib.ListN.{length, getD, drop}
+use lib.Pow.{pow-pos}
 use Rattle.rules.specs.Pair.{levels}
 use Rattle.rules.specs.Heap.{Level}
 use Rattle.rules.specs.Sound.{stacked}
-use Rattle.rules.proofs.Refill.{pos-pow}
-use Rattle.layout.specs.Image.{HEAD, elementsFrom, stackFrom, workFrom, rowWords, need, layOut, updatesBelow}
+use Rattle.layout.specs.Image.{HEAD, elementsFrom, stackFrom, rowWords, need, layOut, updatesBelow}
 use Rattle.layout.specs.SoundImage.{nOf, heapOf, SoundImage}
 use Rattle.layout.proofs.Image.{updates-below-rows, length-stack}
 use Rattle.layout.proofs.Back.{image-words}
@@ -21,17 +21,9 @@ module _ (n : ℕ) (ls : List Level) (more : List ℕ) where
   unfolding layOut
   levels-word = refl
 
-  elements-word : getD (layOut n ls ++ more) 3 0 ≡ elementsFrom (levels n)
-  unfolding layOut
-  elements-word = refl
-
   start-word : getD (layOut n ls ++ more) 4 0 ≡ stackFrom (levels n)
   unfolding layOut
   start-word = refl
-
-  work-word : getD (layOut n ls ++ more) 5 0 ≡ workFrom n (levels n)
-  unfolding layOut
-  work-word = refl
 
   counts-words : updatesBelow (length ls) (drop HEAD (layOut n ls ++ more)) ≡ stacked ls
   unfolding layOut
@@ -53,14 +45,8 @@ module _ (ws : List ℕ) (s : SoundImage ws) where
   pub levels-is : getD ws 1 0 ≡ levels (nOf ws)
   levels-is = ap (λ (l : List ℕ). getD l 1 0) whole ∙ levels-word n ls more
 
-  pub elements-is : getD ws 3 0 ≡ elementsFrom (levels (nOf ws))
-  elements-is = ap (λ (l : List ℕ). getD l 3 0) whole ∙ elements-word n ls more
-
   pub start-is : getD ws 4 0 ≡ stackFrom (levels (nOf ws))
   start-is = ap (λ (l : List ℕ). getD l 4 0) whole ∙ start-word n ls more
-
-  pub work-is : getD ws 5 0 ≡ workFrom (nOf ws) (levels (nOf ws))
-  work-is = ap (λ (l : List ℕ). getD l 5 0) whole ∙ work-word n ls more
 
   pub counts-is : updatesBelow (levels (nOf ws)) (drop HEAD ws) ≡ stacked (heapOf ws)
   counts-is = rw (← s .sound .size) (ap (λ (l : List ℕ). updatesBelow (length ls) (drop HEAD l)) whole ∙ counts-words n ls more)
@@ -71,5 +57,5 @@ module _ (ws : List ℕ) (s : SoundImage ws) where
 
   pub top-fits : (elementsFrom (getD ws 1 0) ≤ length ws) × (getD ws 4 0 + updatesBelow (getD ws 1 0) (drop HEAD ws) ≤ length ws)
   top-fits =
-      let p = pos-pow (levels n) in
+      let p = pow-pos (levels n) in
       (omega (arith, s .long, levels-is), omega (arith, s .long, top-is, s .sound .few-stacked))

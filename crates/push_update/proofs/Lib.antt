@@ -1,6 +1,4 @@
--- Header: what the header of a sound image says. Counts: the sum of the update counts. Three: the three words that a push changes. Asking: the words
--- of a Decrease and of a Delete can be pushed. Assumes nothing.
+-- Header: what the header of a sound image says. Counts: the sum of the update counts. Three: the three words that a push changes. Assumes nothing.
 pub mod Counts
 pub mod Header
 pub mod Three
-pub mod Asking

@@ -1,4 +1,4 @@
--- A push where there is room is the page's update without a tidy; it changes three words, and the image stays sound.
+-- A push where there is room is the page's update without a tidy; it changes three words.
 --   push-changes-three   the law that callers cite        push-stores   the same of the numbers that the code has in hand
 -- Assumes nothing.
 use Prim.Native.Nat.{ℕ, suc, _+_, _<_, _≤_}
@@ -9,13 +9,12 @@ use native.Mathlib.Numerals.{add-one}
 use lib.ListN.{length, getD, set, drop}
 use Rattle.rules.specs.Pair.{levels}
 use Rattle.rules.specs.Update.{Update}
-use Rattle.rules.specs.Sound.{Sound}
 use Rattle.rules.specs.Queue.{push, updated}
-use Rattle.rules.proofs.Soundness.{levels-least, updated-sound}
+use Rattle.rules.proofs.Soundness.{levels-least}
 use Rattle.layout.specs.Words.{unword}
 use Rattle.layout.specs.Image.{HEAD, updatesBelow}
-use Rattle.layout.specs.SoundImage.{nOf, heapOf, laidBack, SoundImage}
-use Rattle.layout.proofs.Back.{sound-laid-back, word-two}
+use Rattle.layout.specs.SoundImage.{nOf, heapOf, laidBack}
+use Rattle.layout.proofs.Back.{word-two}
 use Rattle.layout.proofs.Push.{freeAt, Pushed, no-tidy, push-three}
 use Rattle.layout.proofs.Verdict.{need-low}
 use Rattle.push_update.specs.Pushable.{Pushable}
@@ -32,12 +31,6 @@ module _ (ws : List ℕ) (w : ℕ) (p : Pushable ws w) where
   -- THREE WORDS CHANGE: word 2, level 0's update count, and the free word behind the stack
   pub push-changes-three : Pushed ws (unword w) (laidBack ws (push (unword w) (heapOf ws)))
   push-changes-three = rw same (push-three ws (p .sound) u (p .asked) (p .room))
-
-  pub push-heap-sound : Sound (nOf ws) (push (unword w) (heapOf ws))
-  push-heap-sound = rw same (updated-sound (nOf ws) (heapOf ws) (p .sound .sound) u (p .valid) (p .asked))
-
-  pub push-sound : SoundImage (laidBack ws (push (unword w) (heapOf ws)))
-  push-sound = sound-laid-back ws (push u (heapOf ws)) push-heap-sound
 
   -- what the code reads and stores stays in the slice, and counts stay small
   pub header-fits : HEAD + 2 < length ws

@@ -1,6 +1,5 @@
 -- What the inner push may rely on: a sound image in which fewer than n Decreases and Deletes wait, and the word of one more.
 -- Not here: what callers test before (Rattle.layout.specs.Refusals), and the tidy that makes room.
--- Laws: `decrease-pushable`, `delete-pushable`.
 -- Assumes nothing.
 use Prim.Native.Nat.{ℕ}
 use mathlib.Core.Logic.{_≢_}

@@ -1,54 +1,25 @@
 -- The input answered chunk by chunk is the session of its lines: what one turn does, turns behind each other, the input's end.
 -- Assumes nothing.
 use Prim.Native.Nat.{ℕ, _+_, _-_, _<_, _≤_}
-use mathlib.Core.Bool.{Bool, true, false, cond}
+use mathlib.Core.Bool.{true, false}
 use mathlib.Core.List.{List, [], _∷_, _++_, append-assoc, append-nil}
 use mathlib.Core.Path.{_≡_, refl, sym, ap, _∙_}
 use native.Mathlib.Omega.{arith}
 use native.Mathlib.Numerals.{add-one}
-use lib.Dec.{ltb}
-use lib.ListN.{length, take, drop, length-append, length-drop}
-use lib.Seq.{sets-eq, take-at, length-take-le, take-add}
-use borrow.Author.Tests.{ltb-true, ltb-false}
+use lib.ListN.{length, take, drop, length-drop}
+use lib.Seq.{take-add}
+use borrow.Author.Tests.{ltb-true}
 use Rattle.lists.specs.Put.{part}
 use Rattle.text.specs.Cuts.{newline, upTo, cutAt, closed}
-use Rattle.text.proofs.Cuts.{up-to-within, cut-append, cut-piece, piece-ended, cut-line, cut-behind}
-use Rattle.command.specs.Answers.{Stored}
+use Rattle.text.proofs.Cuts.{cut-piece, piece-ended, cut-line, cut-behind}
+use Rattle.text.proofs.Stored.{stored-none, stored-then}
 use Rattle.command.specs.Commands.{commandOf}
 use Rattle.command.proofs.Long.{beginning-asks}
-use Rattle.command.proofs.Printing.{stored-then}
-use Rattle.queue_lines.specs.declared.Gathered.{Gathered}
-use Rattle.queue_lines.specs.Lines.{room, kept, piece, Holds, Gathers}
-use Rattle.queue_lines.specs.Session.{replyText, Responds, Session, Serves, Goes, Finishes}
-use Rattle.queue_lines.proofs.Gathering.{stored-none, kept-append}
-
--- ---- what the buffer holds
-
--- nothing
-pub holds-none : (l : List ℕ) → Holds l [] 0
-unfolding kept cutAt
-holds-none l = record { unended = refl; count = refl; bytes = refl }
-
--- a piece more
-module _ (l : List ℕ) (line : List ℕ) (held : ℕ) (h : Holds l line held) (p : List ℕ) (r : ℕ) (m : List ℕ) (s : Stored l held (kept held p) r m) (w : r ≤ length l) (free : cutAt newline p ≡ p ∷ []) where
-  both : kept 0 (line ++ p) ≡ kept 0 line ++ kept held p
-  both = let e : 0 + length (kept 0 line) ≡ held = omega (arith, h .count) in kept-append 0 line p ∙ rw e
-
-  pub open-more : cutAt newline (line ++ p) ≡ (line ++ p) ∷ []
-  open-more = cut-append newline line p ∙ rw (h .unended, free)
-
-  pub holds-more : Holds m (line ++ p) r
-  holds-more =
-      let f : held + length (kept held p) ≤ length l = omega (arith, s .ends) in
-      record {
-        unended = open-more;
-        count = rw (both, length-append (kept 0 line) (kept held p)) (omega (arith, s .ends, h .count));
-        bytes = rw (both, s .bytes, s .ends, sets-eq (kept held p) l held f, ← h .bytes) (front f);
-      }
-    where
-      front : held + length (kept held p) ≤ length l
-          → take (held + length (kept held p)) (take held l ++ kept held p ++ drop (held + length (kept held p)) l) ≡ take held l ++ kept held p
-      front f = take-at (take held l ++ kept held p) (drop (held + length (kept held p)) l) (held + length (kept held p)) (length-append (take held l) (kept held p) ∙ rw (length-take-le held l (omega arith)))
+use Rattle.lines.specs.declared.Gathered.{Gathered}
+use Rattle.lines.specs.Lines.{room, kept, piece, Holds, Gathers}
+use Rattle.lines.proofs.Holding.{holds-none, taken-in}
+use Rattle.replies.specs.Replies.{replyText, Responds}
+use Rattle.queue_lines.specs.Session.{Session, Serves, Goes, Finishes}
 
 -- ---- sessions
 
@@ -68,8 +39,8 @@ session-line line buffer held ws out at end after outAfter h r =
     (r .outcome, [], rw e at (r .replies), sym (append-nil (replyText (r .outcome .reply))), (refl, r .image))
 
 module _ (chunk : List ℕ) (from : ℕ) (l : List ℕ) (held : ℕ) (g : Gathered) (m : List ℕ) (q : Gathers chunk from l held g m) (f : from ≤ length chunk) (w : room ≤ length l) where
-  taken-in : (line : List ℕ) → Holds l line held → Holds m (line ++ piece chunk from) (g .held)
-  taken-in line h = holds-more l line held h (piece chunk from) (g .held) m (q .stored) (omega (arith, q .fits)) (cut-piece newline (drop from chunk))
+  with-piece : (line : List ℕ) → Holds l line held → Holds m (line ++ piece chunk from) (g .held)
+  with-piece = taken-in chunk from l held g m q f w
 
   -- its newline has not come
   pub goes-on : (ws out : List ℕ) (at : ℕ) → g .ended ≡ false → Goes l held (part chunk from (g .next - from)) ws out at m (g .held) ws out at
@@ -78,8 +49,8 @@ module _ (chunk : List ℕ) (from : ℕ) (l : List ℕ) (held : ℕ) (g : Gather
       rw n (record {
         lines = [];
         rest = line ++ piece chunk from;
-        cut = taken-in line h .unended;
-        holds = taken-in line h;
+        cut = with-piece line h .unended;
+        holds = with-piece line h;
         text = [];
         session = (refl, refl);
         stored = stored-none out at;
@@ -99,23 +70,9 @@ module _ (chunk : List ℕ) (from : ℕ) (l : List ℕ) (held : ℕ) (g : Gather
         cut = c;
         holds = holds-none m;
         text = replyText (r .outcome .reply);
-        session = session-line (line ++ piece chunk from) m (g .held) ws out at end after outAfter (taken-in line h) r;
+        session = session-line (line ++ piece chunk from) m (g .held) ws out at end after outAfter (with-piece line h) r;
         stored = r .text;
       })
-
-  -- the place in the chunk moves on, within it
-  pub gathers-moves : from < length chunk → (from < g .next) × (g .next ≤ length chunk)
-  gathers-moves o = go (g .ended) (q .ended) (q .next)
-    where
-      go : (t : Bool) → t ≡ ltb (from + upTo newline (drop from chunk)) (length chunk) → g .next ≡ cond t (from + upTo newline (drop from chunk) + 1) (from + upTo newline (drop from chunk))
-          → (from < g .next) × (g .next ≤ length chunk)
-      go true e n =
-          let b : from + upTo newline (drop from chunk) < length chunk = ltb-true (from + upTo newline (drop from chunk)) (length chunk) (sym e) in
-          (omega arith, omega arith)
-      go false e n =
-          let b : length chunk ≤ from + upTo newline (drop from chunk) = ltb-false (from + upTo newline (drop from chunk)) (length chunk) (sym e) in
-          let i : upTo newline (drop from chunk) ≤ length chunk - from = simp length-drop at (up-to-within newline (drop from chunk)) in
-          (omega arith, omega arith)
 
 -- ---- bytes behind bytes
 

@@ -5,7 +5,7 @@ use Prim.Native.Nat.{ℕ, _≤_}
 use mathlib.Core.List.{List, [], _∷_, _++_}
 use mathlib.Core.Path.{_≡_}
 use lib.ListN.{length, take}
-use Rattle.queue_lines.specs.Lines.{Holds}
+use Rattle.lines.specs.Lines.{Holds}
 use Rattle.queue_lines.specs.Session.{Goes, Finishes}
 
 -- the chunks behind each other
@@ -23,7 +23,7 @@ pub record Ends (buffer : List ℕ) (held : ℕ) (ws text after : List ℕ) : Ty
   pub printed : text ≡ take end outAfter
 
 -- a chunk served: what it leaves for the next, and the text behind its own
-pub record Served (chunk buffer : List ℕ) (held : ℕ) (ws text : List ℕ) : Type 0 where
+pub record Begins (chunk buffer : List ℕ) (held : ℕ) (ws text : List ℕ) : Type 0 where
   pub next : List ℕ
   pub kept : ℕ
   pub image : List ℕ
@@ -38,4 +38,4 @@ pub record Served (chunk buffer : List ℕ) (held : ℕ) (ws text : List ℕ) : 
 abbrev pub Input : List (List ℕ) → List ℕ → ℕ → List ℕ → List ℕ → List ℕ → Type 0
 Input [] buffer held ws text after = Ends buffer held ws text after
 Input (chunk ∷ chunks) buffer held ws text after =
-    (s : Served chunk buffer held ws text) × Input chunks (s .next) (s .kept) (s .image) (s .more) after
+    (s : Begins chunk buffer held ws text) × Input chunks (s .next) (s .kept) (s .image) (s .more) after

@@ -1,4 +1,3 @@
--- Lines: the line that a small buffer holds. Session: what the queue program answers, line after line. Input: the whole input in chunks. Assumes nothing.
-pub mod Lines
+-- Session: what the queue program answers, line after line. Input: the whole input in chunks. Assumes nothing.
 pub mod Session
 pub mod Input

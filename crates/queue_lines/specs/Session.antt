@@ -1,6 +1,5 @@
 -- What the queue program answers, line after line.
---   Replies    the call that a command makes, and its outcome        replyText  what is printed of a reply
---   Responds   one line answered                                      Session    lines answered in order: the text printed, and the last image
+--   Session    lines answered in order: the text printed, and the last image
 --   Serves     a chunk of the input answered: its whole lines, with the line begun before it, and what is left of the last one
 --   Goes       the same of whatever line was begun                     Finishes   the input's end
 -- Assumes nothing.
@@ -9,47 +8,14 @@ use mathlib.Core.List.{List, [], _∷_, _++_}
 use mathlib.Core.Path.{_≡_}
 use lib.ListN.{length}
 use Rattle.lists.specs.Put.{part}
-use Rattle.rules.specs.Pair.{idOf, keyOf}
-use Rattle.layout.specs.Calls.{Reply, taken, refused, found, empty, Outcome, refuse, freshCall, decreaseCall, deleteCall, deleteMinCall, ByVerdict}
+use Rattle.layout.specs.Calls.{Outcome}
 use Rattle.text.specs.Cuts.{newline, cutAt, closed}
-use Rattle.command.specs.Answers.{minText, emptyText, refusedText, longestText, Stored}
+use Rattle.text.specs.Stored.{Stored}
+use Rattle.answers.specs.Answers.{longestText}
 use Rattle.command.specs.Commands.{commandOf}
-use Rattle.command.specs.declared.Command.{Command}
-use Rattle.command.specs.declared.Command.the-variants.{New, Dec, Del, Min, Other}
-use Rattle.level_queue.specs.declared.MinAnswer.{MinAnswer}
-use Rattle.level_queue.specs.declared.MinAnswer.the-variants as given
-use Rattle.queue_lines.specs.Lines.{room, Holds}
+use Rattle.lines.specs.Lines.{room, Holds}
+use Rattle.replies.specs.Replies.{Replies, replyText}
 use Rattle.queue_lines.specs.declared.Served.{Served}
-
--- "a line of any other form gives `refused 7`"
-abbrev pub otherForm : ℕ
-otherForm = 7
-
-abbrev pub Replies : Command → List ℕ → Outcome → Type 0
-Replies (New n) ws o = o ≡ freshCall n ws
-Replies (Dec id key) ws o = ByVerdict ws (λ v. decreaseCall v ws id key) o
-Replies (Del id) ws o = ByVerdict ws (λ v. deleteCall v ws id) o
-Replies Min ws o = ByVerdict ws (λ v. deleteMinCall v ws) o
-Replies Other ws o = o ≡ refuse otherForm ws
-
--- "It prints only for `min` .. and for refusals"
-abbrev pub replyText : Reply → List ℕ
-replyText taken = []
-replyText (refused k) = refusedText k
-replyText (found p reach) = minText (idOf p) (keyOf p) reach
-replyText (empty reach) = emptyText reach
-
--- the same for what Delete-Min gives
-abbrev pub minAnswerText : MinAnswer → List ℕ
-minAnswerText (given.Min id key reach) = minText id key reach
-minAnswerText (given.Empty reach) = emptyText reach
-minAnswerText (given.Refused k) = refusedText k
-
-pub record Responds (line ws out : List ℕ) (at : ℕ) (end : ℕ) (after outAfter : List ℕ) : Type 0 where
-  pub outcome : Outcome
-  pub replies : Replies (commandOf line) ws outcome
-  pub image : after ≡ outcome .image
-  pub text : Stored out at (replyText (outcome .reply)) end outAfter
 
 -- lines, the image before, the text printed, the image after
 abbrev pub Session : List (List ℕ) → List ℕ → List ℕ → List ℕ → Type 0

@@ -10,19 +10,19 @@ use borrow.Author.Tests.{leb-true, leb-false, ltb-true, ltb-false, lt-leb, lt-lt
 use lib.Dec.{leb, ltb}
 use lib.ListN.{length, getD, set, length-append, length-set}
 use lib.Seq.{sets, getD-set-same, getD-set-other}
+use lib.Pow.{pow-pos}
 use Rattle.lists.specs.Put.{part}
 use Rattle.plain.specs.Lists.{keep, sift, Every, pad}
 use Rattle.rules.specs.Sound.{Asc}
 use Rattle.rules.specs.Heap.{Level}
 use Rattle.rules.specs.Cuts.{cut, span}
+use Rattle.rules.specs.Pair.{ROWS, OPEN}
 use Rattle.layout.specs.Words.{words}
-use Rattle.layout.specs.Image.{stack}
+use Rattle.layout.specs.Image.{stack, Roomy}
+use Rattle.layout.proofs.Image.{length-area}
 use Rattle.plain.proofs.Every.{every-sift}
 use Rattle.rules.proofs.Sort.{count, rank, under-suc, count-span, cut-rank, cut-mono, at-le-cut, rank-least}
-use Rattle.header.specs.Record.{ROWS}
-use Rattle.at_work.specs.AtWork.{atWork, Roomy, levelPlace, workPlace}
-use Rattle.at_work.proofs.Blocks.{length-area}
-use Rattle.rules.proofs.Refill.{pos-pow}
+use Rattle.at_work.specs.AtWork.{atWork, levelPlace, workPlace}
 use Rattle.at_work.proofs.Places.{working-length, work-elements, work-store, level-fill}
 use Rattle.split.specs.Split.{stays, goes, tagged, Parted}
 use Rattle.split.proofs.Turns.{split-length}
@@ -60,11 +60,11 @@ tagged-none (p ∷ G) = rw (tagged-none G, native.Mathlib.Nat.zero-add p) refl
 module _ (b : ℕ) (E : List ℕ) (a : Asc 0 E) (w : Every (λ p. p ≤ b) E) (some : 0 < length E) where
   pub rung-rank : (j : ℕ) → rank (rung b E j) E ≡ min (2 ^ j) (length E)
   rung-rank zero = rank-least b 0 E a w some ∙ omega arith
-  rung-rank (suc j) = cut-rank b 0 E a w (2 ^ suc j) (pos-pow (suc j))
+  rung-rank (suc j) = cut-rank b 0 E a w (2 ^ suc j) (pow-pos (suc j))
 
   pub rung-mono : (j : ℕ) → rung b E j ≤ rung b E (suc j)
   rung-mono zero = at-le-cut b 0 E a w 0 2 (omega arith) some
-  rung-mono (suc j) = cut-mono b 0 E a w (2 ^ suc j) (2 ^ suc (suc j)) (pos-pow (suc j)) (omega (arith, pow-suc 2 (suc j)))
+  rung-mono (suc j) = cut-mono b 0 E a w (2 ^ suc j) (2 ^ suc (suc j)) (pow-pos (suc j)) (omega (arith, pow-suc 2 (suc j)))
 
   pub share-fits : (j : ℕ) → length (share b E j) ≤ 2 ^ j
   share-fits j =
@@ -174,13 +174,13 @@ module _ (d : Deck) (xs : List ℕ) (first work m k width : ℕ) (p : List ℕ) 
     to-is : to ≡ levelPlace t i
     to-is = omega (arith, half, o .first-is)
 
-    pub split-asks : (work + e ≤ length img) × (to + e ≤ work) × Every (λ q. q < 2 ^ 56) (part img work e) × (1 ≤ w / 2) × (w ≤ work + 1)
+    pub split-asks : (work + e ≤ length img) × (to + e ≤ work) × Every (λ q. q < OPEN) (part img work e) × (1 ≤ w / 2) × (w ≤ work + 1)
     split-asks = (
       omega (arith, img-length (suc i) e w img c g, o .work-is, g .left, few (suc i) e w img c g),
       omega (arith, to-is, below (suc i) e w img c g, pow-suc 2 i, o .work-is, g .left, few (suc i) e w img c g),
-      rw (stands (suc i) e w img c g) (every-sift (λ q. q < 2 ^ 56) (λ q. leb q (rung b E (suc i))) E (o .small)),
-      omega (arith, half, pos-pow i),
-      omega (arith, g .wide, below (suc i) e w img c g, o .work-is, pos-pow i),
+      rw (stands (suc i) e w img c g) (every-sift (λ q. q < OPEN) (λ q. leb q (rung b E (suc i))) E (o .small)),
+      omega (arith, half, pow-pos i),
+      omega (arith, g .wide, below (suc i) e w img c g, o .work-is, pow-pos i),
     )
 
     size′ : i + length (l ∷ ls) ≡ d .levels

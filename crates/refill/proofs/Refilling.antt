@@ -13,9 +13,11 @@ use Rattle.plain.specs.Lists.{Every, pad}
 use Rattle.rules.specs.Step.{Stop}
 use Rattle.rules.specs.Rebuild.{smallest}
 use Rattle.rules.specs.Cuts.{cut, spread, restCuts, doubles}
-use Rattle.layout.specs.Words.{words}
+use Rattle.rules.specs.Pair.{ROWS, OPEN}
+use Rattle.rules.proofs.Tally.{length-stores}
+use Rattle.layout.specs.Words.{words, SINK}
 use Rattle.layout.specs.Image.{HEAD, ROW, stack}
-use Rattle.header.specs.Record.{ROWS, wordAt}
+use Rattle.header.specs.Record.{wordAt}
 use Rattle.at_work.specs.AtWork.{atWork, stackPlace, workPlace}
 use Rattle.at_work.proofs.Places.{working-length, work-elements, work-store, behind-store, behind-read, level-fill, top-word}
 use Rattle.descent.specs.declared.Halt.{Halt}
@@ -36,13 +38,9 @@ last-is : (b : ℕ) (E : List ℕ) (k : ℕ) → lastCut (rung b E k) k (length 
 last-is b E zero = refl
 last-is b E (suc k) = rw (lt-ltb 0 (suc k) (omega arith)) refl
 
-tagged-words : (G : List ℕ) → tagged (3 * 2 ^ 56) G ≡ words (stores G)
+tagged-words : (G : List ℕ) → tagged SINK G ≡ words (stores G)
 tagged-words [] = refl
-tagged-words (p ∷ G) = ap (λ (l : List ℕ). (3 * 2 ^ 56 + p) ∷ l) (tagged-words G)
-
-length-stores : (E : List ℕ) → length (stores E) ≡ length E
-length-stores [] = refl
-length-stores (p ∷ E) = ap suc (length-stores E)
+tagged-words (p ∷ G) = ap (λ (l : List ℕ). (SINK + p) ∷ l) (tagged-words G)
 
 -- the deck that is dealt
 abbrev pub deck : Site → Deck
@@ -135,7 +133,7 @@ module _ (d : Site) (xs : List ℕ) (r : Halt) (o : OnSite d xs r) where
         ∙ rw end-is (behind-read n L top (d .rest) (suc (s .level)) (s .deeper) (o .size) (o .roomy) (s .passed) E room (o .few) m (omega (arith, o .landed .elements, o .spare))),
   )
 
-  pub split-small : Every (λ q. q < 2 ^ 56) (part xs work m)
+  pub split-small : Every (λ q. q < OPEN) (part xs work m)
   split-small = rw stands (o .pairs)
 
   -- ---- with the cuts
@@ -147,14 +145,14 @@ module _ (d : Site) (xs : List ℕ) (r : Halt) (o : OnSite d xs r) where
       pub v-is : v ≡ c
       v-is = e ∙ rw (bound-is, at-level, ladder-is .at (s .level) (omega arith), o .landed .elements) (last-is b E (s .level))
 
-      module _ (kept : ℕ) (zs : List ℕ) (k : Parted kept xs zs work m end (3 * 2 ^ 56) v) where
+      module _ (kept : ℕ) (zs : List ℕ) (k : Parted kept xs zs work m end SINK v) where
         abbrev F : List ℕ
         F = stays (rung b E (s .level)) E
 
         stay : stays v (part xs work m) ≡ F
         stay = rw (stands, v-is) (last-stays b E (s .level) (o .some) (o .within))
 
-        go-out : tagged (3 * 2 ^ 56) (goes v (part xs work m)) ≡ words (restCuts s)
+        go-out : tagged SINK (goes v (part xs work m)) ≡ words (restCuts s)
         go-out = rw (stands, v-is) (tagged-words (goes c E))
 
         both : length F + length (restCuts s) ≡ length E

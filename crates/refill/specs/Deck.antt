@@ -11,11 +11,10 @@ use Rattle.rules.specs.Update.{Update}
 use Rattle.plain.specs.Lists.{sift, Every}
 use Rattle.rules.specs.Sound.{Asc}
 use Rattle.rules.specs.Heap.{Level}
-use Rattle.rules.specs.Pair.{OPEN}
+use Rattle.rules.specs.Pair.{OPEN, ROWS}
 use Rattle.rules.specs.Cuts.{span, spread, doubles}
-use Rattle.layout.specs.Image.{stack, stackWords}
-use Rattle.header.specs.Record.{ROWS}
-use Rattle.at_work.specs.AtWork.{atWork, Roomy, workPlace}
+use Rattle.layout.specs.Image.{stack, stackWords, Roomy}
+use Rattle.at_work.specs.AtWork.{atWork, workPlace}
 use Rattle.split.specs.Split.{stays}
 use Rattle.cuts.specs.Ladder.{rung, Ladder}
 

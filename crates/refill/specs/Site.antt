@@ -13,10 +13,9 @@ use Rattle.rules.specs.Sound.{Asc}
 use Rattle.plain.specs.Lists.{Every}
 use Rattle.rules.specs.Step.{Stop}
 use Rattle.rules.specs.Cuts.{cut, refillCuts, restCuts}
-use Rattle.layout.specs.Image.{elementsFrom, stack, stackWords}
-use Rattle.rules.specs.Pair.{OPEN}
-use Rattle.header.specs.Record.{ROWS}
-use Rattle.at_work.specs.AtWork.{atWork, Roomy, workPlace}
+use Rattle.layout.specs.Image.{elementsFrom, stack, stackWords, Roomy}
+use Rattle.rules.specs.Pair.{OPEN, ROWS}
+use Rattle.at_work.specs.AtWork.{atWork, workPlace}
 use Rattle.descent.specs.declared.Halt.{Halt}
 use Rattle.descent.specs.Landed.{Stopped}
 use Rattle.cuts.specs.Ladder.{Ladder}

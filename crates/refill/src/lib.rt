@@ -2,14 +2,12 @@
 // again. The header's words wait (Rattle.rows_after).
 ghost use mathlib.Core.Path.{_≡_};
 ghost use Prim.Native.Nat.{_<_};
-ghost use Rattle.header.specs.Record.{ROWS};
+ghost use Rattle.rules.specs.Pair.{ROWS};
 ghost use Rattle.refill.specs.Deck.{SomeDeck, Deals};
 ghost use Rattle.refill.specs.Site.{lastCut, SomeSite, RefillsAny};
 use descent::Halt;
 use header::Header;
-
-// A pair with this added is the word of its Sink.
-const SINK: u64 = 3 << 56;
+use pair::Update;
 
 // The cuts, level k's new bound, the element counts of the levels below it (what stands behind them says nothing), and how many pairs became Sinks.
 pub struct Refilled {
@@ -76,7 +74,7 @@ pub fn refill(img: &mut [u64], r: Halt) -> Refilled
     let b = row.bound;
     let cuts = cuts::cuts(img, work, m, end, k, b);
     let bound = last_cut(cuts[k], k, m, b);
-    let kept = split::split(img, work, m, end, SINK, bound);
+    let kept = split::split(img, work, m, end, Update::SINK_TAG, bound);
     let counts = deal(img, first, work, kept, k, r.width, cuts);
     Refilled {
         cuts,

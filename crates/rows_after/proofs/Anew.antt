@@ -11,9 +11,10 @@ use lib.Dec.{ltb}
 use lib.ListN.{getD, set, length-set}
 use lib.Seq.{getD-set-same, getD-set-other, set-getD}
 use Rattle.header.specs.declared.Header.{Header}
-use Rattle.header.specs.Record.{ROWS, withRow}
+use Rattle.header.specs.Record.{withRow}
 use Rattle.rows_after.specs.Rows.{MoreFits, Refreshed, RowsAfter}
 use Rattle.rows_after.proofs.Upto.{frame-kept}
+use Rattle.rules.specs.Pair.{ROWS}
 
 module _ {h g : Header} {p counts : List ℕ} {k waiting : ℕ} (r : Refreshed h g p counts k waiting) (v next added : ℕ) (from : k ≤ next) (small : next < ROWS) where
   -- level k has the bound v and nothing else

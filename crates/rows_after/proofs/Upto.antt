@@ -11,8 +11,9 @@ use lib.Dec.{ltb}
 use lib.ListN.{length, getD, set, length-set}
 use lib.Seq.{getD-set-same, getD-set-other}
 use Rattle.header.specs.declared.Header.{Header}
-use Rattle.header.specs.Record.{ROWS, withRow}
+use Rattle.header.specs.Record.{withRow}
 use Rattle.rows_after.specs.Rows.{Framed, Refreshed}
+use Rattle.rules.specs.Pair.{ROWS}
 
 -- a row anew leaves the numbers and offsets
 pub frame-kept : {h f : Header} {waiting : ℕ} (i b e u : ℕ) → Framed h f waiting → Framed h (withRow f i b e u) waiting

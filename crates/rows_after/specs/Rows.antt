@@ -7,7 +7,7 @@ use mathlib.Core.Path.{_≡_}
 use mathlib.Core.List.{List}
 use lib.ListN.{length, getD}
 use Rattle.header.specs.declared.Header.{Header}
-use Rattle.header.specs.Record.{ROWS}
+use Rattle.rules.specs.Pair.{ROWS}
 
 -- level `next` can have more updates; where it is level k it had none left
 abbrev pub MoreFits : Header → ℕ → ℕ → ℕ → Type 0

@@ -2,7 +2,7 @@
 ghost use mathlib.Core.Path.{_≡_};
 ghost use Prim.Native.Nat.{_<_, _≤_, suc};
 ghost use lib.ListN.{length};
-ghost use Rattle.header.specs.Record.{ROWS};
+ghost use Rattle.rules.specs.Pair.{ROWS};
 ghost use Rattle.rows_after.specs.Rows.{MoreFits, Refreshed, RowsAfter};
 use header::Header;
 

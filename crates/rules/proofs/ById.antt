@@ -16,7 +16,7 @@ use Rattle.rules.specs.Sound.{Asc}
 use Rattle.rules.specs.Rebuild.{insertId, byId}
 use Rattle.rules.specs.Cuts.{span}
 use Rattle.rules.proofs.Level.{asc-sift, asc-floor}
-use Rattle.rules.proofs.Sort.{Up, rank, under, count-sort, length-sort, every-sort, up-sort, under-suc}
+use Rattle.rules.proofs.Sort.{Up, rank, under, count-sort, length-sort, every-sort, up-sort, under-suc, up-every}
 
 -- ---- ASCENDING ID: put in order by pairs and then by ids, elements in ascending id are as they were
 
@@ -56,10 +56,6 @@ byId-sort f (p ∷ E) a =
 abbrev insertIf : Bool → ℕ → List ℕ → List ℕ
 insertIf true p S = insert p S
 insertIf false p S = S
-
-up-every : (f q : ℕ) (S : List ℕ) → q ≤ f → Up f S → Every (λ p. q ≤ p) S
-up-every f q [] h u = tt
-up-every f q (p ∷ S) h u = (omega (arith, u .0), up-every (suc p) q S (omega (arith, u .0)) (u .1))
 
 up-sift : (t : ℕ → Bool) (f : ℕ) (S : List ℕ) → Up f S → Up f (sift t S)
 up-sift t f [] u = tt

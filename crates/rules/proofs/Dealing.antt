@@ -6,7 +6,7 @@ use mathlib.Core.Path.{_≡_, refl, sym, ap, _∙_}
 use mathlib.Core.List.{List, [], _∷_}
 use native.Mathlib.Omega.{arith}
 use native.Mathlib.Nat.{pow-suc}
-use lib.Pow.{pow-mono}
+use lib.Pow.{pow-mono, pow-pos}
 use borrow.Author.Tests.{leb-true, leb-false, le-leb, lt-leb, lt-ltb, le-ltb}
 use lib.Dec.{leb, ltb}
 use lib.ListN.{length, getD, take, drop, length-take, length-drop}
@@ -22,7 +22,7 @@ use Rattle.rules.specs.Rebuild.{byId, kept, rest, splitBound, smallest, 
 use Rattle.rules.specs.Cuts.{cut, span, spread, doubles, parts, refillCuts, rebuiltCuts, tidyCuts}
 use Rattle.rules.proofs.Level.{asc-sift}
 use Rattle.rules.proofs.Sort.{rank, under, count-sort, length-sort, up-sort, under-suc, cut-rank, cut-mono, at-le-cut, rank-least, under-zero}
-use Rattle.rules.proofs.Refill.{pos-pow, asc-length}
+use Rattle.rules.proofs.Refill.{asc-length}
 use Rattle.rules.proofs.Rebuild.{all-within}
 use Rattle.rules.proofs.Descent.{Stopped}
 use Rattle.rules.proofs.Tidy.{Proper, gathered-asc, gathered-valid, open-within}
@@ -59,7 +59,7 @@ module _ (b : ℕ) (E : List ℕ) (a : Asc 0 E) (w : Every (λ p. p ≤ b) E) (r
 
     level-elements : byId here ≡ sift (span f (suc c)) E
     level-elements =
-        let k : under (suc c) E ≡ min (r j) (length E) = under-suc c E ∙ cut-rank b 0 E a w (r j) (omega (arith, pos-pow j)) in
+        let k : under (suc c) E ≡ min (r j) (length E) = under-suc c E ∙ cut-rank b 0 E a w (r j) (omega (arith, pow-pos j)) in
         let q : min x (length S) ≡ under f E = omega (arith, length-sort E) in
         let d : drop x S ≡ drop (under f E) S = drop-min x S ∙ ap (λ (i : ℕ). drop i S) q in
         ap byId (here-is ∙ ap (take (2 ^ j)) d) ∙ part-by-id f (suc c) (2 ^ j) E a low (omega arith)
@@ -84,8 +84,8 @@ module _ (b : ℕ) (E : List ℕ) (a : Asc 0 E) (w : Every (λ p. p ≤ b) E) (r
             let h = leb-false (min m (length E)) (r j) e in
             let n : length here ≡ 2 ^ j = simp (length-take, length-drop, length-sort) (omega arith) in
             let v : getD here (2 ^ j - 1) 0 ≡ getD S (r j - 1) 0 =
-            getD-take (2 ^ j) (drop x K) (2 ^ j - 1) 0 (omega (arith, pos-pow j)) ∙ getD-drop x K (2 ^ j - 1) 0
-            ∙ getD-take m S (x + (2 ^ j - 1)) 0 (omega (arith, pos-pow j)) ∙ ap (λ (i : ℕ). getD S i 0) (omega (arith, pos-pow j)) in
+            getD-take (2 ^ j) (drop x K) (2 ^ j - 1) 0 (omega (arith, pow-pos j)) ∙ getD-drop x K (2 ^ j - 1) 0
+            ∙ getD-take m S (x + (2 ^ j - 1)) 0 (omega (arith, pow-pos j)) ∙ ap (λ (i : ℕ). getD S i 0) (omega (arith, pow-pos j)) in
             dealt-more (cut b m E) here (drop (2 ^ j) (drop x K)) (omega (arith, later-length))
             ∙ ap (λ (i : ℕ). getD here (i - 1) 0) n ∙ v ∙ sym (rw (lt-leb (length E) (r j) (omega arith)) refl)
 
@@ -95,7 +95,7 @@ module _ (b : ℕ) (E : List ℕ) (a : Asc 0 E) (w : Every (λ p. p ≤ b) E) (r
   deal-spread (suc d) j x f h fits done low =
       let c = cut b (r j) E in
       let fit : r j ≤ m = fits j (omega arith) in
-      let pos : 1 ≤ r j = omega (arith, pos-pow j) in
+      let pos : 1 ≤ r j = omega (arith, pow-pos j) in
       let e : drop (2 ^ j) (drop x K) ≡ drop (r j) K = drop-drop (2 ^ j) x K ∙ ap (λ (i : ℕ). drop i K) h in
       let i = deal-spread d (suc j) (r j) (suc c) (sym (grows j)) (λ i l. fits i (omega arith)) (under-suc c E ∙ cut-rank b 0 E a w (r j) pos)
       (omega (arith, cut-mono b 0 E a w (r j) (r (suc j)) pos (omega (arith, grows j)))) in
@@ -112,12 +112,12 @@ module _ (k b : ℕ) (E : List ℕ) (a : Asc 0 E) (w : Every (λ p. p ≤ b) E) 
       go false e =
           let h = leb-false (length E) (2 ^ k) e in
           let n : length (kept k E) ≡ 2 ^ k = simp (length-take, length-sort) (omega arith) in
-          rw (lt-ltb (2 ^ k) (length E) h, n) (getD-take (2 ^ k) (sort E) (2 ^ k - 1) 0 (omega (arith, pos-pow k)))
+          rw (lt-ltb (2 ^ k) (length E) h, n) (getD-take (2 ^ k) (sort E) (2 ^ k - 1) 0 (omega (arith, pow-pos k)))
 
   pub rest-cuts : rest k E ≡ stores (sift (ltb (cut b (2 ^ k) E)) E)
   rest-cuts =
       let c = cut b (2 ^ k) E in
-      let n : rank c E ≡ min (2 ^ k) (length E) = cut-rank b 0 E a w (2 ^ k) (pos-pow k) in
+      let n : rank c E ≡ min (2 ^ k) (length E) = cut-rank b 0 E a w (2 ^ k) (pow-pos k) in
       let q : min (2 ^ k) (length (sort E)) ≡ rank c (sort E) = omega (arith, length-sort E, count-sort (λ p. leb p c) E) in
       let d : drop (2 ^ k) (sort E) ≡ sort (sift (ltb c) E) =
       drop-min (2 ^ k) (sort E) ∙ ap (λ (i : ℕ). drop i (sort E)) q ∙ drop-rank c 0 (sort E) (up-sort 0 E a) ∙ sift-sort (ltb c) 0 E a in
@@ -138,7 +138,7 @@ pub deal-parts : (E : List ℕ) (L : ℕ) → Asc 0 E → Every (λ p. p ≤ OPE
 deal-parts E L a w h =
     let c : cut OPEN (2 ^ L) E ≡ OPEN = rw (le-leb (length E) (2 ^ L) h) refl in
     let t : take (2 ^ L) (sort E) ≡ sort E = take-all (2 ^ L) (sort E) (omega (arith, length-sort E)) in
-    let e = deal-spread OPEN E a w parts (λ j. omega (arith, pow-suc 2 (suc j), pow-suc 2 j, pos-pow j)) (2 ^ L) L 0 0 0 refl
+    let e = deal-spread OPEN E a w parts (λ j. omega (arith, pow-suc 2 (suc j), pow-suc 2 j, pow-pos j)) (2 ^ L) L 0 0 0 refl
     (λ i l. fit i l) (under-zero E ∙ omega arith) (omega arith) in
     rw (c, t) at e
   where

@@ -137,7 +137,7 @@ asc-behind y f (p ∷ E) a = go (ltb y (idOf p)) refl (asc-behind y (suc (idOf p
     go true e h = (ltb-true y (idOf p) e, asc-sift (λ p. ltb y (idOf p)) (suc (idOf p)) E (a .1))
     go false e h = h
 
-none-before : (y f : ℕ) (E : List ℕ) → y ≤ f → Asc f E → sift (λ p. ltb (idOf p) y) E ≡ []
+pub none-before : (y f : ℕ) (E : List ℕ) → y ≤ f → Asc f E → sift (λ p. ltb (idOf p) y) E ≡ []
 none-before y f [] h a = refl
 none-before y f (p ∷ E) h a = rw (le-ltb (idOf p) y (omega (arith, a .0))) (none-before y (suc (idOf p)) E (omega (arith, a .0)) (a .1))
 

@@ -8,7 +8,7 @@ use mathlib.Core.List.{List, [], _∷_, _++_, append-assoc, append-nil}
 use native.Mathlib.Omega.{arith}
 use borrow.Author.Tests.{eqb-true, eqb-false}
 use lib.Dec.{eqb}
-use lib.ListN.{length}
+use lib.ListN.{length, drop-of-length-le}
 use Rattle.plain.proofs.Every.{every-append}
 use Rattle.rules.specs.Update.{Held, absent, held, Update, decrease, delete, sink, act, reads, At, idIn, waits, stored}
 use Rattle.rules.specs.Pair.{idOf, OPEN, levels}
@@ -76,12 +76,10 @@ plain-least n m k = go (sort (gather n m)) refl
     P : List ℕ
     P = gather n m
 
-    none : (Q : List ℕ) → length Q ≡ 0 → (x : ℕ) → find x Q ≡ absent
-    none [] e x = refl
-    none (p ∷ Q) e x = absurd (omega arith)
-
     go : (S : List ℕ) → sort (gather n m) ≡ S → IsLeast m (firstOfAll S)
-    go [] e = λ x. sym (gathered n m k x) ∙ none P (sym (length-sort P) ∙ ap length e) x
+    go [] e =
+        let none : P ≡ [] = drop-of-length-le P {i = 0} (omega (arith, length-sort P, ap length e)) in
+        λ x. sym (gathered n m k x) ∙ ap (find x) none
     go (p ∷ S) e =
         let some : 0 < length (sort P) = rw e (omega arith) in
         let l : smallest P ≡ p = rw e refl in
@@ -103,7 +101,7 @@ pub fresh-reading : (d : ℕ) → reading (fresh d) ≡ []
 fresh-reading zero = refl
 fresh-reading (suc d) = rw (fresh-reading d) refl
 
-fresh-length : (d : ℕ) → length (fresh d) ≡ d
+pub fresh-length : (d : ℕ) → length (fresh d) ≡ d
 fresh-length zero = refl
 fresh-length (suc d) = ap suc (fresh-length d)
 

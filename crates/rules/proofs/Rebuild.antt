@@ -7,6 +7,7 @@ use native.Mathlib.Omega.{arith}
 use native.Mathlib.Nat.{pow-suc}
 use lib.Dec.{ltb}
 use lib.ListN.{length}
+use lib.Pow.{pow-pos}
 use Rattle.plain.proofs.Every.{every-append, every-sift}
 use Rattle.rules.specs.Update.{Held, absent, held, reads, At}
 use Rattle.rules.specs.Pair.{idOf}
@@ -23,7 +24,7 @@ use Rattle.rules.proofs.Level.{only-append, restrict}
 use Rattle.rules.proofs.Descent.{at-find, every-find, clear-lanes, clear-weaken, clear-stores, Stopped}
 use Rattle.rules.proofs.Sort.{under-suc, cut-le, at-le-cut, rank-least, every-at, every-sort, length-sort}
 use Rattle.rules.proofs.Spread.{reading-append, part-cells, part-lane, ordered-cells, crest, crest-last, spread-chain}
-use Rattle.rules.proofs.Refill.{pos-pow, asc-length, least-le, put-back, found, cut-last, restrict-none, past-open, apart-over, apart-span, level-weaken, level-add, valid-stores, over-clear, first, refill-lane, refill-order}
+use Rattle.rules.proofs.Refill.{asc-length, least-le, put-back, found, cut-last, restrict-none, past-open, apart-over, apart-span, level-weaken, level-add, valid-stores, over-clear, first, refill-lane, refill-order}
 
 -- T2: DELETE-MIN TAKES THE LEAST LIVE PAIR, AND NOTHING ELSE
 module _ (Z : ℕ → ℕ → Type 0) (n : ℕ) (m : ℕ → Held) (s : Stop) (k : Stopped Z n m s) where
@@ -47,7 +48,7 @@ module _ (Z : ℕ → ℕ → Type 0) (n : ℕ) (m : ℕ → Held) (s : Stop) (k
   least-within = every-at (λ p. p ≤ b) (sort E) 0 (rw (length-sort E) (k .some)) (every-sort (λ p. p ≤ b) E all-within)
 
   pub least-top : smallest E ≤ top
-  least-top = at-le-cut b 0 E (k .ascends) all-within 0 (2 ^ s .level) (omega (arith, pos-pow (s .level))) (k .some)
+  least-top = at-le-cut b 0 E (k .ascends) all-within 0 (2 ^ s .level) (omega (arith, pow-pos (s .level))) (k .some)
 
   pub passed-clear : AllClear (suc b) (s .passed)
   passed-clear = clear-lanes (suc b) (s .passed) (λ x. (k .lanes x) .clear)
@@ -128,7 +129,7 @@ module _ (Z : ℕ → ℕ → Type 0) (n : ℕ) (m : ℕ → Held) (s : Stop) (k
 
     -- T3: the levels
     pub top-le : top ≤ b
-    top-le = cut-le b 0 E (k .ascends) all-within (2 ^ s .level) (pos-pow (s .level))
+    top-le = cut-le b 0 E (k .ascends) all-within (2 ^ s .level) (pow-pos (s .level))
 
     valid-added : Every (ValidU n) (s .passed ++ restCuts s)
     valid-added = every-append (ValidU n) (s .passed) (restCuts s) (k .valid-passed) (valid-stores n (sift (ltb top) E) (every-sift (Valid n) (ltb top) E (k .valid)))
@@ -155,7 +156,7 @@ module _ (Z : ℕ → ℕ → Type 0) (n : ℕ) (m : ℕ → Held) (s : Stop) (k
         let D = addBehind (s .passed ++ restCuts s) (s .deeper) in
         let S = spread doubles b E (suc (smallest E)) 0 (s .level) in
         rw (append-assoc S (K ∷ []) D)
-        (chain-weaken S K D (spread-chain doubles b E (λ j. pos-pow (suc j)) (λ j. omega (arith, pow-suc 2 (suc j))) (k .ascends) all-within n (k .valid)
+        (chain-weaken S K D (spread-chain doubles b E (λ j. pow-pos (suc j)) (λ j. omega (arith, pow-suc 2 (suc j))) (k .ascends) all-within n (k .valid)
         (λ j. omega (arith, pow-suc 2 (suc j))) Z (K ∷ D) (s .level) (suc (smallest E)) 0 (s .level) (omega arith) (first b E (k .ascends) all-within (k .some))
         (omega (arith, under-suc (smallest E) E, rank-least b 0 E (k .ascends) all-within (k .some)))
         (record { rises = crest-top (s .level); ascends = tt; room = omega arith; valid = tt; within = tt; beyond = tt; valid-updates = tt; clear = tt }, chain-add (s .deeper) refl)))

@@ -6,10 +6,11 @@ use mathlib.Core.Logic.{_≢_}
 use mathlib.Core.Path.{_≡_, refl, sym, _∙_}
 use mathlib.Core.List.{List, [], _∷_, _++_}
 use native.Mathlib.Omega.{arith}
-use native.Mathlib.Nat.{one-le-pow, pow-suc}
+use native.Mathlib.Nat.{pow-suc}
 use borrow.Author.Tests.{leb-true, leb-false, ltb-true, le-leb, lt-leb, lt-ltb, le-ltb, eqb-true, eqb-false, eq-eqb, ne-eqb}
 use lib.Dec.{leb, ltb, eqb}
-use lib.ListN.{length, getD}
+use lib.ListN.{length, getD, drop-of-length-le}
+use lib.Pow.{pow-pos}
 use Rattle.plain.proofs.Every.{every-append, every-both, every-weaken}
 use Rattle.rules.specs.Update.{Held, absent, held, Update, reads, At}
 use Rattle.rules.specs.Pair.{idOf, OPEN}
@@ -25,20 +26,13 @@ use Rattle.rules.specs.PlainMap.{strike}
 use Rattle.rules.proofs.Lane.{absent-is, Apart, clear-append}
 use Rattle.rules.proofs.Level.{asc-floor, find-sift, restrict}
 use Rattle.rules.proofs.Descent.{reads-at, every-only, valid-puts, clear-reads, clear-weaken, Puts}
-use Rattle.rules.proofs.Sort.{under-suc, count-span, cut-rank, at-le-cut, rank-least, every-unsort, Up, up-sort}
+use Rattle.rules.proofs.Sort.{under-suc, count-span, cut-rank, at-le-cut, rank-least, every-unsort, Up, up-sort, up-every}
 use Rattle.rules.proofs.Spread.{reading-append, span-none, crest, crest-last, spread-lane, spread-order}
 
-pub pos-pow : (j : ℕ) → 1 ≤ 2 ^ j
-pos-pow j = one-le-pow j 2 (omega arith)
-
 -- between the least pair and the cut at 1 there is nothing
-nil-of-length : (S : List ℕ) → length S ≡ 0 → S ≡ []
-nil-of-length [] h = refl
-nil-of-length (p ∷ S) h = absurd (omega arith)
-
 first-gap : (b : ℕ) (E : List ℕ) → Asc 0 E → Every (λ p. p ≤ b) E → 0 < length E → sift (span (suc (smallest E)) (suc (cut b 1 E))) E ≡ []
 first-gap b E a w h =
-    nil-of-length (sift (span (suc (smallest E)) (suc (cut b 1 E))) E)
+    drop-of-length-le (sift (span (suc (smallest E)) (suc (cut b 1 E))) E) {i = 0}
     (omega (
       arith,
       count-span (suc (smallest E)) (suc (cut b 1 E)) E (omega (arith, at-le-cut b 0 E a w 0 1 (omega arith) h)),
@@ -67,11 +61,11 @@ module _ (b : ℕ) (E : List ℕ) (a : Asc 0 E) (w : Every (λ p. p ≤ b) E) (s
 
   pub refill-lane : (x k : ℕ) (s : Held) → reads s (only x (reading (refillCuts b E k))) ≡ over (restrict (span (suc (smallest E)) (suc (cut b (2 ^ k) E))) (find x E)) s
   refill-lane x k s =
-      rw (refill-reading k, spread-lane doubles b E (λ j. pos-pow (suc j)) (λ j. omega (arith, pow-suc 2 (suc j))) a w x k (suc (smallest E)) 0 first s, crest-is x k) refl
+      rw (refill-reading k, spread-lane doubles b E (λ j. pow-pos (suc j)) (λ j. omega (arith, pow-suc 2 (suc j))) a w x k (suc (smallest E)) 0 first s, crest-is x k) refl
 
   pub refill-order : (x k : ℕ) (s : Held) → Apart (restrict (span (suc (smallest E)) (suc (cut b (2 ^ k) E))) (find x E)) s → Ordered s (only x (reading (refillCuts b E k)))
   refill-order x k s g =
-      rw (refill-reading k) (spread-order doubles b E (λ j. pos-pow (suc j)) (λ j. omega (arith, pow-suc 2 (suc j))) a w x k (suc (smallest E)) 0 first s (rw (crest-is x k) g))
+      rw (refill-reading k) (spread-order doubles b E (λ j. pow-pos (suc j)) (λ j. omega (arith, pow-suc 2 (suc j))) a w x k (suc (smallest E)) 0 first s (rw (crest-is x k) g))
 
 -- no more elements than ids
 pub asc-length : (n f : ℕ) (E : List ℕ) → f ≤ n → Asc f E → Every (Valid n) E → f + length E ≤ n
@@ -82,13 +76,9 @@ asc-length n f (p ∷ E) h a v = omega (arith, asc-length n (suc (idOf p)) E (v 
 pub least-le : (E : List ℕ) (f : ℕ) → Asc f E → 0 < length E → Every (λ p. smallest E ≤ p) E
 least-le E f a h = every-unsort (λ p. smallest E ≤ p) E (up-least (sort E) (up-sort f E a))
   where
-    up-all : (g : ℕ) (S : List ℕ) (q : ℕ) → q ≤ g → Up g S → Every (λ p. q ≤ p) S
-    up-all g [] q k u = tt
-    up-all g (p ∷ S) q k u = (omega (arith, u .0), up-all (suc p) S q (omega (arith, u .0)) (u .1))
-
     up-least : (S : List ℕ) → Up 0 S → Every (λ p. getD S 0 0 ≤ p) S
     up-least [] u = tt
-    up-least (p ∷ S) u = (omega arith, up-all (suc p) S p (omega arith) (u .1))
+    up-least (p ∷ S) u = (omega arith, up-every (suc p) p S (omega arith) (u .1))
 
 strike-above : (b lo : ℕ) (h : Held) → lo ≤ b → Above b h → strike lo h ≡ h
 strike-above b lo absent l a = refl

@@ -15,7 +15,7 @@ use lib.Dec.{leb, eqb}
 use lib.ListN.{length, take}
 use Rattle.plain.proofs.Every.{every-both, every-weaken}
 use Rattle.plain.specs.Lists.{Every}
-use Rattle.rules.specs.Pair.{InRange, OPEN, idOf, levelsFrom, levels}
+use Rattle.rules.specs.Pair.{InRange, OPEN, idOf, levelsFrom, levels, ROWS}
 use Rattle.rules.specs.Update.{absent, Update, sink, pairIn, idIn}
 use Rattle.rules.specs.Heap.{Level, boundAt, elementsAt, updatesAt, reading, only, live, waiting}
 use Rattle.rules.specs.Sound.{Keyless, NoSink, DeleteBefore, Sound}
@@ -79,7 +79,7 @@ levels-fit n r = go (levels n) ((levels-least n r) .0) ((levels-least n r) .1)
         let h′ : n ≤ 2 ^ m = rw e at h in
         omega (arith, pow-suc 2 m)
 
-pub levels-few : (n : ℕ) → levels n ≤ 17
+pub levels-few : (n : ℕ) → levels n ≤ ROWS
 unfolding levels
 levels-few n = few 16 0
   where
@@ -244,11 +244,3 @@ module _ (n : ℕ) (ls : List Level) (s : Sound n ls) where
       go false e =
           let q : waiting ls ≢ n = eqb-false (waiting ls) n e in
           (s, omega (arith, s .few))
-
-  pub make-room-live : (x : ℕ) → live (makeRoom n ls) x ≡ live ls x
-  unfolding makeRoom
-  make-room-live x = go (eqb (waiting ls) n)
-    where
-      go : (b : Bool) → live (cond b (tidy n ls) ls) x ≡ live ls x
-      go true = tidy-live x
-      go false = refl

@@ -2,7 +2,7 @@
 -- Assumes nothing.
 use Prim.Native.Nat.{ℕ, zero, suc, _+_, _^_, _≤_}
 use mathlib.Core.Bool.{Bool, true, false}
-use mathlib.Core.Path.{_≡_, refl, ap}
+use mathlib.Core.Path.{_≡_, refl, ap, _∙_}
 use mathlib.Core.List.{List, [], _∷_, _++_}
 use native.Mathlib.Omega.{arith}
 use lib.Dec.{leb, ltb}
@@ -23,6 +23,10 @@ tally-append t (u ∷ us) vs = go (t u) (tally-append t us vs)
     go : (b : Bool) → tally t (us ++ vs) ≡ tally t us + tally t vs → oneMore b (tally t (us ++ vs)) ≡ oneMore b (tally t us) + tally t vs
     go true h = omega arith
     go false h = h
+
+pub length-stores : (E : List ℕ) → length (stores E) ≡ length E
+length-stores [] = refl
+length-stores (p ∷ E) = ap suc (length-stores E)
 
 pub stores-wait : (E : List ℕ) → tally waits (stores E) ≡ 0
 stores-wait [] = refl
@@ -111,9 +115,8 @@ pub spread-length : (r : ℕ → ℕ) (b : ℕ) (E : List ℕ) (d f j : ℕ) →
 spread-length r b E zero f j = refl
 spread-length r b E (suc d) f j = ap suc (spread-length r b E d (suc (cut b (r j) E)) (suc j))
 
-add-waits : (us : List Update) (ls : List Level) → tally waits (reading (addBehind us ls)) ≤ tally waits (reading ls) + tally waits us
-add-waits us [] = omega arith
-add-waits us (l ∷ ls) =
+add-waits : (us : List Update) (l : Level) (ls : List Level) → tally waits (reading (addBehind us (l ∷ ls))) ≡ tally waits (reading (l ∷ ls)) + tally waits us
+add-waits us l ls =
     let S = stores (l .elements) in
     omega (
       arith,
@@ -128,22 +131,39 @@ add-length : (us : List Update) (ls : List Level) → length (addBehind us ls) �
 add-length us [] = refl
 add-length us (l ∷ ls) = refl
 
-pub rebuilt-waits : (s : Stop) → tally waits (reading (rebuiltCuts s)) ≤ tally waits (reading (s .deeper)) + tally waits (s .passed)
-rebuilt-waits s =
+-- what waits in the levels that are built anew is what waits in those behind them
+rebuilt-added : (s : Stop) → tally waits (reading (rebuiltCuts s)) ≡ tally waits (reading (addBehind (s .passed ++ restCuts s) (s .deeper)))
+rebuilt-added s =
     let E = s .elements in
     let S = spread (λ j. 2 ^ suc j) (s .bound) E (suc (smallest E)) 0 (s .level) in
     let K : List Level = record { bound = cut (s .bound) (2 ^ s .level) E; elements = []; updates = [] } ∷ [] in
     let D = addBehind (s .passed ++ restCuts s) (s .deeper) in
     let e : tally waits (reading (rebuiltCuts s)) ≡ tally waits (reading D) + (tally waits (reading S)) =
     rw (reading-append (S ++ K) D, reading-append S K, tally-append waits (reading D) (reading S)) refl in
-    omega (
+    omega (arith, e, spread-waits (λ j. 2 ^ suc j) (s .bound) E (s .level) (suc (smallest E)) 0)
+
+-- past the last level nothing waits; else what is passed on does, while the rest are Sinks
+pub rebuilt-waits-last : (s : Stop) → s .deeper ≡ [] → tally waits (reading (rebuiltCuts s)) ≡ 0
+rebuilt-waits-last s q = rebuilt-added s ∙ rw q refl
+
+pub rebuilt-waits-on : (s : Stop) (l : Level) (ls : List Level) → s .deeper ≡ l ∷ ls
+    → tally waits (reading (rebuiltCuts s)) ≡ tally waits (reading (s .deeper)) + tally waits (s .passed)
+rebuilt-waits-on s l ls q =
+    let us = s .passed ++ restCuts s in
+    rebuilt-added s
+    ∙ rw q (omega (
       arith,
-      e,
-      spread-waits (λ j. 2 ^ suc j) (s .bound) E (s .level) (suc (smallest E)) 0,
-      add-waits (s .passed ++ restCuts s) (s .deeper),
+      add-waits us l ls,
       tally-append waits (s .passed) (restCuts s),
-      stores-wait (sift (ltb (cut (s .bound) (2 ^ s .level) E)) E),
-    )
+      stores-wait (sift (ltb (cut (s .bound) (2 ^ s .level) (s .elements))) (s .elements)),
+    ))
+
+pub rebuilt-waits : (s : Stop) → tally waits (reading (rebuiltCuts s)) ≤ tally waits (reading (s .deeper)) + tally waits (s .passed)
+rebuilt-waits s = go (s .deeper) refl
+  where
+    go : (ls : List Level) → s .deeper ≡ ls → tally waits (reading (rebuiltCuts s)) ≤ tally waits (reading (s .deeper)) + tally waits (s .passed)
+    go [] q = omega (arith, rebuilt-waits-last s q)
+    go (l ∷ ls) q = omega (arith, rebuilt-waits-on s l ls q)
 
 pub rebuilt-length : (s : Stop) → length (rebuiltCuts s) ≡ suc (s .level) + length (s .deeper)
 rebuilt-length s =

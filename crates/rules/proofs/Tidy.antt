@@ -9,6 +9,7 @@ use native.Mathlib.Omega.{arith}
 use native.Mathlib.Nat.{pow-suc}
 use borrow.Author.Tests.{le-leb, lt-ltb, eqb-true, eqb-false, ltb-true, ltb-false}
 use lib.Dec.{ltb, eqb}
+use lib.Pow.{pow-pos}
 use Rattle.plain.proofs.Every.{every-append, every-weaken}
 use Rattle.rules.specs.Update.{Held, absent, held, At}
 use Rattle.rules.specs.Pair.{idOf, OPEN}
@@ -25,7 +26,7 @@ use Rattle.rules.proofs.Level.{restrict, find-append, find-cells, find-
 use Rattle.rules.proofs.Descent.{at-find, every-cells}
 use Rattle.rules.proofs.Sort.{under-zero}
 use Rattle.rules.proofs.Spread.{crest, crest-last, spread-lane, spread-order, spread-chain}
-use Rattle.rules.proofs.Refill.{pos-pow, asc-length, cut-last}
+use Rattle.rules.proofs.Refill.{asc-length, cut-last}
 
 -- what is held of each id is a pair of that id, below n
 abbrev pub Proper : ℕ → (ℕ → Held) → Type 0
@@ -112,7 +113,7 @@ module _ (n : ℕ) (m : ℕ → Held) (k : Proper n m) where
   open-within = every-weaken (Valid n) (λ p. p ≤ OPEN) (λ p h. omega (arith, h .1)) P gathered-valid
 
   pub r-pos : (j : ℕ) → 1 ≤ parts j
-  r-pos j = omega (arith, pow-suc 2 j, pos-pow j)
+  r-pos j = omega (arith, pow-suc 2 j, pow-pos j)
 
   pub r-mono : (j : ℕ) → parts j ≤ parts (suc j)
   r-mono j = omega (arith, pow-suc 2 (suc j))

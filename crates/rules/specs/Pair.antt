@@ -38,3 +38,7 @@ levelsFrom (suc d) i n = cond (leb n (2 ^ i)) (suc i) (levelsFrom d (suc i) n)
 -- sixteen tries are enough for n up to 2^16 (law `levels-least`)
 unfoldable pub levels : ℕ → ℕ
 levels n = levelsFrom 16 0 n
+
+-- "its level rows (at most seventeen)": n ids have no more levels (law `levels-few`)
+abbrev pub ROWS : ℕ
+ROWS = 17

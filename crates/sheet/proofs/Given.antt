@@ -1,12 +1,11 @@
--- WHAT THE ANSWER OF `accept` GIVES TO A CALLER, by its cases, and the bounds of what is read from a row then.
+-- WHAT THE ANSWER OF `accept` GIVES TO A CALLER, by its cases.
 --   number-is          the answer's number is that of the table, 0 where none is given
 --   sheet-exactly      the answer is the sheet exactly where the page accepts it
 --   sheet-given        the answer `Sheet { n, h, source }` gives all of `Given`
 --   refused-given      the answer `Refused(k)` gives the table's number, which is not 0
 --   unrefused-given    the same of a sheet of which it is known that nothing refuses it
---   target-below, weight-small   the half-edges of an accepted sheet's rows
 -- Assumes nothing.
-use Prim.Native.Nat.{ℕ, _<_, _≤_}
+use Prim.Native.Nat.{ℕ, _<_}
 use mathlib.Core.Bool.{Bool, true, false, cond}
 use mathlib.Core.Logic.{_↔_}
 use mathlib.Core.List.{List}
@@ -14,13 +13,11 @@ use mathlib.Core.Path.{_≡_, refl, sym, ap, _∙_}
 use native.Mathlib.Omega.{arith}
 use lib.Dec.{eqb}
 use borrow.Author.Tests.{eqb-true, eqb-false, eq-eqb}
-use Rattle.sheet_format.specs.Numbers.{mostWeight}
 use Rattle.sheet_format.specs.Sheet.{vertices, halfEdges, source, chosenSource, refusal}
 use Rattle.sheet_format.specs.Accepted.{Accepted}
 use Rattle.sheet_format.proofs.Judge.{refusal-passes, refusal-accepts, accepts-refusal}
-use Rattle.sheet_words.specs.Places.{halfOf, Ranked, RowAt}
+use Rattle.sheet_words.specs.Places.{Ranked}
 use Rattle.sheet_words.proofs.Left.{laid, rowed, ranked}
-use Rattle.sheet_words.proofs.Halves.{half-has}
 use Rattle.sheet.specs.declared.Acceptance.the-variants.{Sheet, Refused}
 use Rattle.sheet.specs.Answer.{numberOf, sheetOf, acceptOf}
 use Rattle.sheet.specs.Given.{Given}
@@ -82,12 +79,3 @@ refused-given s k e = (sym (number-is s) ∙ ap numberOf (sym e), go (eqb k 0) r
 pub sheet-exactly : (s : List ℕ) → (sheetOf s ≡ acceptOf s) ↔ Accepted s
 sheet-exactly s =
     (λ e. sheet-given s (vertices s) (halfEdges s) (chosenSource (vertices s) (source s)) e .accepted, λ a. sym (unrefused-sheet s (accepts-refusal s a)))
-
--- ---- what is read from a row
-
-module _ (s : List ℕ) (n h v : ℕ) (g : Given s n h v) (u first count j : ℕ) (r : RowAt s u first count) (l : j < count) where
-  pub target-below : halfOf s u j .target < n
-  target-below = g .ranked .below u (halfOf s u j .target) (halfOf s u j .weight) (half-has s u first count j r l)
-
-  pub weight-small : halfOf s u j .weight ≤ mostWeight
-  weight-small = g .accepted .weights-small u (halfOf s u j .target) (halfOf s u j .weight) (half-has s u first count j r l)

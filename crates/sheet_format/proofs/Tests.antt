@@ -32,9 +32,6 @@ or-first a b p = rw p
 pub or-second : (a b : Bool) → b ≡ true → (a || b) ≡ true
 or-second a b p = rw p (or-true a)
 
-pub or-pass : (a b : Bool) → a ≡ false → (a || b) ≡ b
-or-pass a b p = rw p
-
 -- ---- some number below m
 
 pub some-false : (m : ℕ) (t : ℕ → Bool) → some m t ≡ false → (k : ℕ) → k < m → t k ≡ false

@@ -2,7 +2,7 @@
 -- then 23, refuses a record (stray-exactly, heavy-exactly); where neither does, they are the records' words (judged-packed).
 -- Assumes nothing.
 use Prim.Native.Nat.{ℕ, _*_, _<_, _≤_}
-use mathlib.Core.Bool.{_||_, Bool, true, false, cond}
+use mathlib.Core.Bool.{_||_, Bool, true, false, cond, or-self-left}
 use mathlib.Core.List.{List, [], _∷_}
 use mathlib.Core.Path.{_≡_, refl, sym, ap, _∙_}
 use native.Mathlib.Omega.{arith}
@@ -73,16 +73,12 @@ module _ (n u t w : ℕ) (h : n ≤ mostVertices) where
 
 -- ---- all records
 
-twice-or : (a b : Bool) → (a || (a || b)) ≡ (a || b)
-twice-or true b = refl
-twice-or false b = refl
-
 module _ (n : ℕ) (h : n ≤ mostVertices) where
   stray-exactly : (es : List Edge) → holds STRAY (judgedWords n es) ≡ strayEnds n es
   stray-exactly [] = refl
   stray-exactly (e ∷ es) =
       rw (half-stray n (e .one) (e .other) (e .weight) h, half-stray n (e .other) (e .one) (e .weight) h, ends-swap n (e .one) (e .other) (e .weight), stray-exactly es)
-      (twice-or (wrongEnds n e) (strayEnds n es))
+      (or-self-left (wrongEnds n e) (strayEnds n es))
 
   heavy-exactly : (es : List Edge) → strayEnds n es ≡ false → holds HEAVY (judgedWords n es) ≡ tooHeavy es
   heavy-exactly [] a = refl
@@ -93,7 +89,7 @@ module _ (n : ℕ) (h : n ≤ mostVertices) where
         half-heavy n (e .other) (e .one) (e .weight) h (ends-swap n (e .one) (e .other) (e .weight) ∙ p),
         heavy-exactly es (or-right (wrongEnds n e) _ a),
       )
-      (twice-or (heavyEdge e) (tooHeavy es))
+      (or-self-left (heavyEdge e) (tooHeavy es))
 
   judged-packed : (es : List Edge) → strayEnds n es ≡ false → tooHeavy es ≡ false → judgedWords n es ≡ wordsOf es
   judged-packed [] a b = refl

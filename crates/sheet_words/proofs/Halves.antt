@@ -8,8 +8,7 @@ use mathlib.Core.List.{List, [], _∷_}
 use mathlib.Core.Path.{_≡_, refl, ap, _∙_, subst}
 use native.Mathlib.Numerals.{add-one}
 use native.Mathlib.Omega.{arith}
-use lib.ListN.{length, getD, drop, drop-of-length-le}
-use lib.Seq.{drop-cons}
+use lib.ListN.{length, getD}
 use Rattle.walks.specs.Rows.{Half, Has}
 use Rattle.sheet_format.specs.Numbers.{word}
 use Rattle.sheet_format.specs.Rows.{any}
@@ -82,10 +81,3 @@ module _ (s : List ℕ) (u first count j : ℕ) (r : RowAt s u first count) wher
 
   pub half-has : j < count → Has (row s u) (halfOf s u j .target) (halfOf s u j .weight)
   half-has h = has-getD (row s u) j (record { target = 0; weight = 0 }) (omega (arith, r .counted))
-
-  -- a loop over the row: its rest from the j-th half-edge on
-  pub row-turn : j < count → drop j (row s u) ≡ halfOf s u j ∷ drop (j + 1) (row s u)
-  row-turn h = rw (add-one j) (drop-cons (row s u) j (record { target = 0; weight = 0 }) (omega (arith, r .counted)))
-
-  pub row-ends : count ≤ j → drop j (row s u) ≡ []
-  row-ends h = drop-of-length-le (row s u) {i = j} (omega (arith, r .counted))

@@ -83,9 +83,6 @@ module _ (xs : List ℕ) (area to g v j : ℕ) (ys : List ℕ) (k : ℕ) (s : Sp
   size : length A + length B ≡ j
   size = omega (arith, split-length v E, length-tagged g (goes v E), length-part xs area j (omega arith))
 
-  pub split-kept : k ≤ j
-  split-kept = omega (arith, s .kept, size)
-
   pair : p ≡ getD xs (area + j) 0
   pair =
       ap (λ (z : List ℕ). getD z (area + j) 0) (s .words)

@@ -20,3 +20,7 @@ spelt (suc steps) n = cond (ltb n 10) (glyph n ∷ []) (spelt steps (n / 10) ++ 
 -- n steps are enough for n
 unfoldable pub decimal : ℕ → List ℕ
 decimal n = spelt n n
+
+-- a number and the byte behind it
+unfoldable pub field : ℕ → ℕ → List ℕ
+field n byte = decimal n ++ (byte ∷ [])

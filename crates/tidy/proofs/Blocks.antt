@@ -8,7 +8,7 @@ use lib.ListN.{length}
 use Rattle.plain.specs.Lists.{pad}
 use Rattle.rules.specs.Heap.{Level}
 use Rattle.layout.specs.Words.{words}
-use Rattle.layout.specs.Image.{rowWords, elementWords, stack}
+use Rattle.layout.specs.Image.{elementWords, stack}
 
 -- blocks grouped anew
 pub group-four : (A B C D E : List ℕ) → A ++ (B ++ (C ++ (D ++ E))) ≡ (((A ++ B) ++ C) ++ D) ++ E
@@ -18,10 +18,6 @@ pub group-inner : (A B C D E F G : List ℕ) → A ++ (B ++ ((C ++ ((D ++ E) ++ 
 group-inner A B C D E F G = simp append-assoc
 
 -- ---- the words of levels that are joined
-
-pub rows-append : (ks ls : List Level) → rowWords (ks ++ ls) ≡ rowWords ks ++ rowWords ls
-rows-append [] ls = refl
-rows-append (k ∷ ks) ls = ap (λ (r : List ℕ). k .bound ∷ length (k .elements) ∷ length (k .updates) ∷ r) (rows-append ks ls)
 
 pub elements-append : (i e : ℕ) (ks ls : List Level) → e ≡ i + length ks → elementWords i (ks ++ ls) ≡ elementWords i ks ++ elementWords e ls
 elements-append i e [] ls q =

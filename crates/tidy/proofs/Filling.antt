@@ -6,7 +6,7 @@ use mathlib.Core.List.{List, [], _∷_, _++_, append-assoc, append-nil}
 use native.Mathlib.Omega.{arith}
 use native.Mathlib.Nat.{pow-suc, zero-add, add-zero}
 use native.Mathlib.Numerals.{add-one}
-use lib.Pow.{pow-mono}
+use lib.Pow.{pow-mono, pow-pos}
 use lib.ListN.{length, take, drop, length-append, length-take}
 use lib.Seq.{sets, drop-drop}
 use Rattle.plain.specs.Lists.{sort, pad}
@@ -16,14 +16,13 @@ use Rattle.rules.specs.Pair.{OPEN}
 use Rattle.rules.specs.Heap.{Level}
 use Rattle.rules.specs.Sound.{Asc}
 use Rattle.rules.specs.Rebuild.{byId, dealtBound, deal}
-use Rattle.rules.proofs.Refill.{pos-pow}
 use Rattle.layout.specs.Image.{HEAD, ROW, rowWords, elementWords, stack}
-use Rattle.layout.proofs.Image.{length-rows, length-pad}
+use Rattle.layout.proofs.Image.{length-rows, length-pad, rows-append}
 use Rattle.sorting.specs.ById.{sortId}
 use Rattle.sorting.proofs.LawById.{sort-id-part, sort-id-length}
 use Rattle.tidy_parts.specs.Dealt.{rowOf, DealsLevel}
 use Rattle.tidy.specs.Places.{levelsStored, Dealable}
-use Rattle.tidy.proofs.Blocks.{rows-append, elements-append, stack-append}
+use Rattle.tidy.proofs.Blocks.{elements-append, stack-append}
 
 module _ (S : List ℕ) where
   -- what is left of the pairs S once the levels before level i have theirs
@@ -44,7 +43,7 @@ module _ (S : List ℕ) where
   deal-from : (d i : ℕ) → upTo i ++ deal OPEN i (leftAt i) d ≡ upTo (i + d)
   deal-from zero i = rw (add-zero i) (append-nil (upTo i))
   deal-from (suc d) i =
-      let q : 2 ^ i - 1 + 2 ^ i ≡ 2 ^ suc i - 1 = omega (arith, pow-suc 2 i, pos-pow i) in
+      let q : 2 ^ i - 1 + 2 ^ i ≡ 2 ^ suc i - 1 = omega (arith, pow-suc 2 i, pow-pos i) in
       let e : drop (2 ^ i) (leftAt i) ≡ leftAt (suc i) = drop-drop (2 ^ i) (2 ^ i - 1) S ∙ ap (λ (k : ℕ). drop k S) q in
       let s : suc i + d ≡ i + suc d = omega arith in
       ap (λ (r : List ℕ). upTo i ++ (levelOf i ∷ deal OPEN (suc i) r d)) e
@@ -137,7 +136,7 @@ module _ {xs ys : List ℕ} {depth first m i width left : ℕ} (d : Dealable xs 
       let w = k .wide in
       let e = d .elements-fit in
       let q = pow-suc 2 i in
-      let z = pos-pow i in
+      let z = pow-pos i in
       (omega (arith, d .rows-fit), omega arith, omega (arith, k .rest, d .room), omega arith)
 
   left-words : part ys (first + (width - 1)) left ≡ leftAt S i
@@ -175,7 +174,7 @@ module _ {xs ys : List ℕ} {depth first m i width left : ℕ} (d : Dealable xs 
       let p : 2 ^ (i + 1) ≡ 2 ^ suc i = ap (λ (j : ℕ). 2 ^ j) (add-one i) in
       let q = pow-suc 2 i in
       let w = k .wide in
-      record { wide = omega arith; rest = omega (arith, pos-pow i, k .rest, t .number); words = next-words r zs t }
+      record { wide = omega arith; rest = omega (arith, pow-pos i, k .rest, t .number); words = next-words r zs t }
 
 pub dealing-ends : {xs ys : List ℕ} {first m i width left : ℕ} (depth : ℕ) → FirstDealt xs ys first m i width left → i ≡ depth
     → ys ≡ levelsStored xs first (deal OPEN 0 (part xs first m) depth)

@@ -7,6 +7,7 @@ use native.Mathlib.Omega.{arith}
 use native.Mathlib.Nat.{pow-suc}
 use lib.ListN.{length, getD, drop, replicate, length-append, drop-of-length-le}
 use lib.Seq.{sets}
+use lib.Pow.{pow-pos}
 use Rattle.plain.specs.Lists.{Every}
 use Rattle.plain.proofs.Every.{every-weaken}
 use Rattle.lists.specs.Put.{part}
@@ -15,15 +16,14 @@ use Rattle.rules.specs.Update.{Update, decrease, delete, sink, idIn}
 use Rattle.rules.specs.Heap.{Level, elementsAt, updatesAt, stores, reading, live}
 use Rattle.rules.specs.Firm.{Valid, ValidU, Ends}
 use Rattle.rules.proofs.Indexed.{levelAt, level-at}
-use Rattle.rules.proofs.Refill.{pos-pow}
 use Rattle.rules.proofs.Queue.{chain-valid}
 use Rattle.rules.proofs.Soundness.{sound-firm}
-use Rattle.layout.specs.Words.{word, words}
+use Rattle.layout.specs.Words.{word, words, SINK}
 use Rattle.layout.specs.Image.{HEAD, ROW, elementsFrom, stackFrom, workFrom, need, stack, layOut}
 use Rattle.layout.specs.SoundImage.{nOf, heapOf}
 use Rattle.layout.proofs.Image.{length-words}
 use Rattle.layout.proofs.Back.{image-words}
-use Rattle.tidy_parts.specs.Marks.{marked, codes, SINK, Placed, levelEntries, Readable, ReadsLevel}
+use Rattle.tidy_parts.specs.Marks.{marked, codes, Placed, levelEntries, Readable, ReadsLevel}
 use Rattle.tidy_parts.proofs.Reading.{length-marked, part-marked, getD-marked, marked-append, entries-stores, entries-words, marked-words}
 use Rattle.tidy.specs.Places.{Offsets}
 use Rattle.tidy.proofs.Standing.{level-first, work-zeros, elements-count, updates-count, elements-words, updates-words, elements-end, updates-end}
@@ -188,7 +188,7 @@ module _ {ws ys : List ℕ} {depth first above work i width at : ℕ} (o : Offse
   half = halved i width some (k .wide)
 
   pub half-some : 1 ≤ width / 2
-  half-some = omega (arith, half, pos-pow (i - 1))
+  half-some = omega (arith, half, pow-pos (i - 1))
 
   pub marking-ready : Readable ys (HEAD + ROW * (i - 1)) (first + (width / 2 - 1)) at work
   marking-ready = ready ws ys depth first above work o i (i - 1) (width / 2) at (omega arith) less half (k .place) (k .words)
@@ -206,7 +206,7 @@ module _ {ws : List ℕ} {depth first above work : ℕ} (o : Offsets ws depth fi
   none = drop-of-length-le (heapOf ws) {i = depth} (omega (arith, o .sound .sound .size, o .depth-is))
 
   pub marking-starts : DeeperRead ws ws above work depth (above - first + 1) above
-  marking-starts = record { wide = omega (arith, o .first-is, o .stack-is, pos-pow depth); place = rw none (omega arith); words = rw none refl }
+  marking-starts = record { wide = omega (arith, o .first-is, o .stack-is, pow-pos depth); place = rw none (omega arith); words = rw none refl }
 
   whole-reading : marked ws work (reading (heapOf ws)) ≡ sets ws work (codes (nOf ws) (live (heapOf ws)))
   whole-reading =

@@ -5,7 +5,7 @@ use mathlib.Core.Path.{_≡_, refl, sym, ap, _∙_}
 use mathlib.Core.List.{List, [], _∷_, _++_, append-assoc}
 use native.Mathlib.Omega.{arith}
 use native.Mathlib.Nat.{pow-suc, zero-add}
-use lib.Pow.{pow-mono}
+use lib.Pow.{pow-mono, pow-pos}
 use lib.ListN.{length, getD, take, drop, replicate, length-append, length-replicate, take-append-drop}
 use lib.Seq.{getD-append-add, length-take-le}
 use Rattle.plain.specs.Lists.{pad}
@@ -17,12 +17,11 @@ use Rattle.rules.specs.Heap.{Level, boundAt, elementsAt, updatesAt, waiting}
 use Rattle.rules.specs.Sound.{Sound}
 use Rattle.rules.specs.Firm.{Firm}
 use Rattle.rules.proofs.Indexed.{levelAt}
-use Rattle.rules.proofs.Refill.{pos-pow}
 use Rattle.rules.proofs.Soundness.{sound-firm}
 use Rattle.layout.specs.Words.{words}
 use Rattle.layout.specs.Image.{HEAD, ROW, elementsFrom, stackFrom, workFrom, stackWords, headWords, rowWords, elementWords, stack, layOut}
-use Rattle.layout.proofs.Image.{length-rows, length-pad, length-words, stack-fits, elements-size, rows-size}
-use Rattle.tidy.proofs.Blocks.{group-four, group-inner, rows-append, elements-append, stack-append}
+use Rattle.layout.proofs.Image.{length-rows, length-pad, length-words, stack-fits, elements-size, rows-size, rows-append}
+use Rattle.tidy.proofs.Blocks.{group-four, group-inner, elements-append, stack-append}
 
 -- ---- a list of levels at level i
 
@@ -170,7 +169,7 @@ module _ (n : ℕ) (ls : List Level) (s : Sound n ls) (rest : List ℕ) where
     elements-end =
         let l : suc i ≤ L = omega (arith, s .size) in
         let p : 2 ^ suc i ≤ 2 ^ L = pow-mono l in
-        omega (arith, s .fit i, pow-suc 2 i, pos-pow i)
+        omega (arith, s .fit i, pow-suc 2 i, pow-pos i)
 
     pub updates-end : stackFrom L + length (stack D) + length us ≤ workFrom n L
     updates-end =

@@ -19,16 +19,19 @@ use Rattle.rules.specs.Update.{Held, absent, held, Update, decrease, sink, idIn
 use Rattle.rules.specs.Heap.{stores, only}
 use Rattle.rules.specs.Firm.{Valid, ValidU}
 use Rattle.rules.proofs.Sort.{every-at}
-use Rattle.layout.proofs.Image.{pair-unword}
-use Rattle.layout.specs.Words.{word, words, ofKind, unword}
-use Rattle.layout.proofs.Image.{unword-word}
-use Rattle.tidy_parts.specs.Marks.{code, uncode, mark, marked, entries, codes, SINK, Placed, levelEntries, Readable}
+use Rattle.layout.proofs.Image.{pair-unword, unword-word}
+use Rattle.layout.specs.Words.{word, words, ofKind, unword, SINK}
+use Rattle.tidy_parts.specs.Marks.{code, uncode, mark, marked, entries, codes, Placed, levelEntries, Readable}
 
 -- ---- one word
 
 pub uncode-code : (h : Held) → uncode (code h) ≡ h
 uncode-code absent = refl
 uncode-code (held p) = refl
+
+pub code-uncode : (w : ℕ) → code (uncode w) ≡ w
+code-uncode zero = refl
+code-uncode (suc p) = refl
 
 -- what `lowered` answers
 pub lowered-entered : (q p : ℕ) → q ≡ 0 → p + 1 ≡ code (act (uncode q) (decrease p))
@@ -151,10 +154,6 @@ entries-words n (u ∷ us) v =
 
 -- ---- what the words hold: each entry acts on its own id only
 
-code-uncode : (w : ℕ) → code (uncode w) ≡ w
-code-uncode zero = refl
-code-uncode (suc p) = refl
-
 module _ (at x : ℕ) where
   mark-at : (xs : List ℕ) (u : Update) → at + x < length xs → getD (mark xs at u) (at + x) 0 ≡ code (reads (uncode (getD xs (at + x) 0)) (only x (u ∷ [])))
   unfolding mark
@@ -186,7 +185,7 @@ pub length-codes : (n : ℕ) (m : ℕ → Held) → length (codes n m) ≡ n
 length-codes zero m = refl
 length-codes (suc n) m = length-append (codes n m) (code (m n) ∷ []) ∙ omega (arith, length-codes n m)
 
-getD-codes : (n : ℕ) (m : ℕ → Held) (x : ℕ) → x < n → getD (codes n m) x 0 ≡ code (m x)
+pub getD-codes : (n : ℕ) (m : ℕ → Held) (x : ℕ) → x < n → getD (codes n m) x 0 ≡ code (m x)
 getD-codes zero m x h = absurd (omega arith)
 getD-codes (suc n) m x h = go (eqb x n) refl (getD-codes n m x)
   where

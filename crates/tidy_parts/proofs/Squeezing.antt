@@ -22,9 +22,9 @@ squeeze-some xs to (suc p) h =
     let e : suc p - 1 ≡ p = omega arith in
     rw e (record { number = refl; words = refl })
 
-squeezed-append : (vs ws : List ℕ) → squeezed (vs ++ ws) ≡ squeezed vs ++ squeezed ws
-squeezed-append [] ws = refl
-squeezed-append (w ∷ vs) ws = ap (λ (l : List ℕ). cells (uncode w) ++ l) (squeezed-append vs ws) ∙ sym (append-assoc (cells (uncode w)) (squeezed vs) (squeezed ws))
+pub squeezed-snoc : (vs : List ℕ) (w : ℕ) → squeezed (vs ++ (w ∷ [])) ≡ squeezed vs ++ cells (uncode w)
+squeezed-snoc [] w = append-nil (cells (uncode w))
+squeezed-snoc (v ∷ vs) w = ap (λ (l : List ℕ). cells (uncode v) ++ l) (squeezed-snoc vs w) ∙ sym (append-assoc (cells (uncode v)) (squeezed vs) (cells (uncode w)))
 
 few-cells : (h : Held) → length (cells h) ≤ 1
 few-cells absent = omega arith
@@ -38,7 +38,7 @@ squeezed-few (w ∷ ws) = omega (arith, squeezed-few ws, few-cells (uncode w), l
 pub squeezed-codes : (n : ℕ) (m : ℕ → Held) → squeezed (codes n m) ≡ gather n m
 squeezed-codes zero m = refl
 squeezed-codes (suc n) m =
-    squeezed-append (codes n m) (code (m n) ∷ []) ∙ rw (squeezed-codes n m, uncode-code (m n)) (ap (λ (l : List ℕ). gather n m ++ l) (append-nil (cells (m n))))
+    squeezed-snoc (codes n m) (code (m n)) ∙ rw (squeezed-codes n m, uncode-code (m n)) refl
 
 -- after j words
 pub squeeze-few : (xs ys : List ℕ) (from j to k : ℕ) → Squeezes k xs ys from j to → from + j ≤ length xs → k ≤ j
@@ -54,7 +54,7 @@ module _ (xs ys : List ℕ) (from j to k : ℕ) (s : Squeezes k xs ys from j to)
       let S = squeezed (part xs from j) in
       let C = cells (uncode w) in
       let p : part xs from (j + 1) ≡ part xs from j ++ (w ∷ []) = part-suc xs from j g ∙ ap (λ (v : ℕ). part xs from j ++ (v ∷ [])) (sym read) in
-      let q : squeezed (part xs from (j + 1)) ≡ S ++ C = ap squeezed p ∙ squeezed-append (part xs from j) (w ∷ []) ∙ ap (λ (l : List ℕ). S ++ l) (append-nil C) in
+      let q : squeezed (part xs from (j + 1)) ≡ S ++ C = ap squeezed p ∙ squeezed-snoc (part xs from j) w in
       record {
         number = rw q (omega (arith, s .number, o .number, length-append S C));
         words =

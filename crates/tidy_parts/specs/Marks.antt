@@ -4,7 +4,7 @@
 --   entries        words read as entries
 -- Not here: what an entry does to what is held (`act`, Rattle.rules, Update).
 -- Assumes nothing.
-use Prim.Native.Nat.{ℕ, zero, suc, _+_, _*_, _%_, _^_, _<_, _≤_}
+use Prim.Native.Nat.{ℕ, zero, suc, _+_, _%_, _^_, _<_, _≤_}
 use mathlib.Core.List.{List, [], _∷_, _++_}
 use mathlib.Core.Path.{_≡_}
 use lib.ListN.{length, getD, set}
@@ -14,7 +14,7 @@ use Rattle.lists.specs.Put.{part}
 use Rattle.rules.specs.Pair.{OPEN, idOf}
 use Rattle.rules.specs.Update.{Held, absent, held, Update, idIn, act}
 use Rattle.rules.specs.Step.{cells}
-use Rattle.layout.specs.Words.{unword}
+use Rattle.layout.specs.Words.{unword, SINK}
 
 abbrev pub code : Held → ℕ
 code absent = 0
@@ -42,10 +42,6 @@ marked xs at (u ∷ us) = marked (mark xs at u) at us
 abbrev pub entries : ℕ → List ℕ → List Update
 entries tag [] = []
 entries tag (w ∷ ws) = unword (tag + w) ∷ entries tag ws
-
--- a pair with this added is the word of its Sink
-abbrev pub SINK : ℕ
-SINK = 3 * OPEN
 
 -- a word has room for the tag, and its id has a place before `end`
 abbrev pub Placed : ℕ → ℕ → ℕ → ℕ → Type 0

@@ -16,9 +16,6 @@ ghost use Rattle.tidy_parts.specs.Dealt.{DealsLevel};
 use pair::Pair;
 use pair::Update;
 
-// A pair with this added is the word of its Sink.
-const SINK: u64 = 3 << 56;
-
 // The word of an id that held q, once a Decrease of the pair p is read.
 fn lowered(q: u64, p: u64) -> u64
     requires { ⌜ p < OPEN ⌝ }
@@ -79,7 +76,7 @@ pub fn mark_level(img: &mut [u64], row: usize, from: usize, at: usize, work: usi
 {
     let elements = img[row + 1] as usize;
     let updates = img[row + 2] as usize;
-    mark_run(img, work, from, elements, SINK);
+    mark_run(img, work, from, elements, Update::SINK_TAG);
     mark_run(img, work, at, updates, 0);
     at + updates
 }

@@ -6,7 +6,7 @@ use mathlib.Core.Path.{_≡_, refl, ap, _∙_}
 use mathlib.Core.List.{List, [], _∷_}
 use native.Mathlib.Omega.{arith}
 use lib.ListN.{length}
-use Rattle.rules.specs.Pair.{pairOf, keyOf, idOf, levels}
+use Rattle.rules.specs.Pair.{pairOf, keyOf, idOf, levels, IDS}
 use Rattle.rules.specs.Update.{Held, absent, held, decrease}
 use Rattle.rules.specs.Heap.{Level, live}
 use Rattle.rules.specs.Step.{Found, nothing, stop, descend}
@@ -56,7 +56,7 @@ module _ (n : ℕ) (pos : 1 ≤ n) where
       let t = delete-min-law n ls (f .sound) pos in
       least-unique m ((deleteMin ls) .pair) (plainMin n m) (least-same (live ls) m ((deleteMin ls) .pair) (f .same) (t .least-pair)) l
 
-  pub follow-fresh : n ≤ 65536 → Follows (fresh (levels n)) (λ x. absent)
+  pub follow-fresh : n ≤ IDS → Follows (fresh (levels n)) (λ x. absent)
   follow-fresh h = record { sound = sound-firm n (fresh (levels n)) (fresh-heap n (pos, h)); same = λ x. rw (fresh-reading (levels n)) refl }
 
 -- an answer that says empty leaves a fresh heap

@@ -18,6 +18,7 @@ use Rattle.rules.specs.Step.{whenHeld, find}
 use Rattle.rules.specs.PlainMap.{IsLeast, firstOfAll, plainMin}
 use Rattle.rules.proofs.Lane.{Apart}
 use Rattle.rules.proofs.Queue.{least-unique}
+use Rattle.rules.proofs.Level.{over-absent}
 use Rattle.walks.specs.Rows.{Half}
 use Rattle.walks.specs.Walks.{Table, reachedOf}
 use Rattle.walks.specs.Settling.{settle, turn, goOn, settling, begun, settled, keyHeld, distanceIn, rowPushes, orderPushes, pushes}
@@ -56,8 +57,8 @@ module _ (n : ℕ) (rows : ℕ → List Half) (source : ℕ) (fair : Fair n rows
 
   rest-none : (D m : ℕ → Held) → G D m → IsLeast m absent → Rest D []
   rest-none D m g l = record {
-    table = same-table rows source D (Then D []) (λ x. bare (D x)) (ended rows source D m (g .inv) l);
-    reached = same-reached n (Then D []) D (λ x. bare (D x)) ∙ omega arith;
+    table = same-table rows source D (Then D []) (λ x. over-absent (D x)) (ended rows source D m (g .inv) l);
+    reached = same-reached n (Then D []) D (λ x. over-absent (D x)) ∙ omega arith;
     apart = λ x. free (D x);
     once = tt;
     ids = tt;
@@ -65,10 +66,6 @@ module _ (n : ℕ) (rows : ℕ → List Half) (source : ℕ) (fair : Fair n rows
     pushed = tt;
   }
     where
-      bare : (h : Held) → over h absent ≡ h
-      bare absent = refl
-      bare (held d) = refl
-
       free : (h : Held) → Apart h absent
       free absent = tt
       free (held d) = tt

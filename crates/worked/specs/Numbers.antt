@@ -1,6 +1,6 @@
 -- THE PAGE'S NUMBERS, each by its digits, and those that two crates name agree. A name that is used on both sides of a law is pinned only here.
 -- Assumes nothing.
-use Prim.Native.Nat.{ℕ, _^_}
+use Prim.Native.Nat.{_^_}
 use mathlib.Core.Path.{_≡_}
 use Rattle.rules.specs.Pair.{IDS, KEYS, OPEN, levels}
 use Rattle.layout.specs.Image.{HEAD, ROW, need}

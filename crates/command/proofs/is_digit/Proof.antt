@@ -1,7 +1,6 @@
 -- The two ends of the digits, one test each.
 -- Assumes nothing.
 use Rattle.command.proofs.Reading.{digit-low, digit-high}
-use Prim.Native.Nat.{_-_}
 use mathlib.Core.Path.{sym}
 use native.Mathlib.Omega.{arith}
 use borrow.Author.Needs.{needs}

@@ -1,7 +1,6 @@
 -- The keywords in order: the first that the line begins with.
 -- Assumes nothing.
 use Rattle.command.specs.Commands.{keywordOf}
-use Prim.Native.Nat.{_-_}
 use mathlib.Core.Path.{sym, _∙_}
 use borrow.Author.Needs.{needs}
 use Rattle.command.proofs.keyword_in.Statement.{statement}

@@ -1,6 +1,5 @@
 -- By the cases of the two numbers and of the keyword.
 -- Assumes nothing.
-use Prim.Native.Nat.{_-_}
 use borrow.Author.Needs.{needs}
 use Rattle.command.proofs.with_two.Statement.{statement}
 use Rattle.command.proofs.with_two.Tie as tie

@@ -1,10 +1,9 @@
 use lib.ListN.{replicate, length, getD, set, length-set}
-use Rattle.rules.proofs.Refill.{pos-pow}
 use Rattle.cuts.proofs.Ladders.{ladder-starts, ladder-turn}
 use mathlib.Core.Path.{subst, _≡_, refl, ap, _∙_}
 use Prim.Native.Nat.{_^_, ℕ, _+_, _-_, _*_, _≤_}
 use native.Mathlib.Nat.{pow-suc}
-use lib.Pow.{pow-mono}
+use lib.Pow.{pow-mono, pow-pos}
 use native.Mathlib.Numerals.{add-one}
 use Rattle.lists.specs.Put.{part}
 use Rattle.lists.specs.Part.{getD-part}
@@ -13,9 +12,10 @@ use native.Mathlib.Omega.{arith}
 use borrow.Author.Needs.{needs}
 use Rattle.cuts.proofs.ladder.Statement.{statement}
 use Rattle.cuts.proofs.ladder.Tie as tie
+use Rattle.rules.specs.Pair.{ROWS}
 
 abbrev Inv-loop : tie.InvT-loop
-Inv-loop img at m k b p₀ width₀ j₀ p width j = (j ≤ k) × (length p ≡ 17) × (width ≡ 2 ^ j) × LadderOf b (part img at m) j p
+Inv-loop img at m k b p₀ width₀ j₀ p width j = (j ≤ k) × (length p ≡ ROWS) × (width ≡ 2 ^ j) × LadderOf b (part img at m) j p
 
 abbrev μ-loop : tie.MeasureT-loop
 μ-loop img at m k b p₀ width₀ j₀ p width j = k - j
@@ -34,16 +34,16 @@ loop-holds c =
     let a = c .before .before .args in
     let S = part (a .img .now) (a .at) (a .m) in
     let e : getD S 0 0 ≡ getD (a .img .now) (a .at) 0 = getD-part (a .img .now) (a .at) (a .m) 0 (omega arith) ∙ ap (λ (z : ℕ). getD (a .img .now) z 0) (omega arith) in
-    (omega arith, refl, refl, subst (λ (z : ℕ). LadderOf (a .b) S 0 (set (replicate 17 0) 0 z)) e (ladder-starts (a .b) S (replicate 17 0) (omega arith)))
+    (omega arith, refl, refl, subst (λ (z : ℕ). LadderOf (a .b) S 0 (set (replicate ROWS 0) 0 z)) e (ladder-starts (a .b) S (replicate ROWS 0) (omega arith)))
 
 mul-width : tie.Need-mul-width Inv-loop μ-loop
-mul-width c = omega (arith, c .before .loop .inv .2, pow-mono {i = c .before .loop .j} {j = 17} (omega arith))
+mul-width c = omega (arith, c .before .loop .inv .2, pow-mono {i = c .before .loop .j} {j = ROWS} (omega arith))
 
 add-j : tie.Need-add-j Inv-loop μ-loop
 add-j c = search needs
 
 cut-at-requires : tie.Need-cut-at-requires Inv-loop μ-loop
-cut-at-requires c κs = (omega arith, omega (arith, c .before .loop .inv .2, pos-pow (c .before .loop .j)))
+cut-at-requires c κs = (omega arith, omega (arith, c .before .loop .inv .2, pow-pos (c .before .loop .j)))
 
 mul-p-2 : tie.Need-mul-p-2 Inv-loop μ-loop
 mul-p-2 c = search needs

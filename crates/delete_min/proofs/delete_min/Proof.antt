@@ -3,9 +3,10 @@
 use mathlib.Core.Path.{_∙_}
 use native.Mathlib.Omega.{arith}
 use borrow.Author.Needs.{needs}
-use Rattle.delete_min.proofs.Where.{words-inside, top-asks, stack-ends, bare, site, spent, emptied, found-at, on-site, filled, taken}
+use Rattle.delete_min.proofs.Where.{words-inside, stack-ends, bare, site, spent, emptied, found-at, on-site, filled, taken}
 use Rattle.delete_min.proofs.delete_min.Statement.{statement}
 use Rattle.delete_min.proofs.delete_min.Tie as tie
+use Rattle.push_update.proofs.Header.{top-fits}
 
 slice-read-levels : tie.Need-slice-read-levels
 slice-read-levels c = omega (arith, words-inside (c .before .before .args .img .now) (c .before .before .pre))
@@ -18,7 +19,7 @@ stack-top-requires c κs =
     let s = c .before .before .before .before in
     let xs = s .args .img .now in
     let k = s .pre in
-    top-asks xs k
+    top-fits xs k
 
 go-down-requires : tie.Need-go-down-requires
 go-down-requires c κs =

@@ -5,12 +5,12 @@ use mathlib.Core.Path.{_≡_, refl, _∙_}
 use native.Mathlib.Omega.{arith}
 use borrow.Author.Needs.{needs}
 use lib.ListN.{length, getD}
-use Rattle.rules.specs.Pair.{IDS}
+use Rattle.rules.specs.Pair.{IDS, ROWS}
 use Rattle.rules.specs.Heap.{waiting}
 use Rattle.rules.proofs.Soundness.{levels-few}
 use Rattle.layout.specs.Image.{HEAD, ROW}
 use Rattle.layout.specs.SoundImage.{nOf, heapOf}
-use Rattle.header.specs.Record.{ROWS, rowOf}
+use Rattle.header.specs.Record.{rowOf}
 use Rattle.at_work.specs.AtWork.{workPlace}
 use Rattle.descent.specs.Landed.{topOf, laterOf}
 use Rattle.descent.proofs.Going.{Going, Facing, faces, going-through}

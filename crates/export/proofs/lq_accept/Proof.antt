@@ -1,8 +1,4 @@
-use Prim.Native.Nat.{ℕ, _+_, _-_, _*_, _≤_, _<_}
-use mathlib.Core.Path.{_≡_, refl, sym, ap, _∙_}
-use native.Mathlib.Omega.{arith}
 use borrow.Author.Needs.{needs}
-use lib.ListN.{length, getD, set, take, drop, length-set}
 use Rattle.export.proofs.lq_accept.Statement.{statement}
 use Rattle.export.proofs.lq_accept.Tie as tie
 

@@ -1,19 +1,19 @@
-use Rattle.rules.proofs.Refill.{pos-pow}
 -- The search for L: half is 2^i, and L is what the tries from there on give.
 -- Assumes nothing.
 use Prim.Native.Nat.{ℕ, _+_, _-_, _≤_, _<_, _^_}
 use mathlib.Core.Path.{_≡_, sym, ap, _∙_}
 use native.Mathlib.Omega.{arith}
 use borrow.Author.Needs.{needs}
-use native.Mathlib.Nat.{pow-suc, one-le-pow}
+use native.Mathlib.Nat.{pow-suc}
 use native.Mathlib.Numerals.{add-one}
-use Rattle.rules.specs.Pair.{levelsFrom, levels}
+use lib.Pow.{pow-pos}
+use Rattle.rules.specs.Pair.{levelsFrom, levels, IDS}
 use Rattle.fresh_image.proofs.Levels.{levels-start, below-sixteen, small-power, levels-on, levels-stop}
 use Rattle.fresh_image.proofs.depth_of.Statement.{statement}
 use Rattle.fresh_image.proofs.depth_of.Tie as tie
 
 abbrev Inv-loop : tie.InvT-loop
-Inv-loop n i₀ half₀ i half = (i ≤ 16) × (half ≡ 2 ^ i) × (levels n ≡ levelsFrom (16 - i) i n) × (half ≤ 65536)
+Inv-loop n i₀ half₀ i half = (i ≤ 16) × (half ≡ 2 ^ i) × (levels n ≡ levelsFrom (16 - i) i n) × (half ≤ IDS)
 
 abbrev μ-loop : tie.MeasureT-loop
 μ-loop n i₀ half₀ i half = n - half
@@ -28,7 +28,7 @@ add-i : tie.Need-add-i Inv-loop μ-loop
 add-i c = search needs
 
 loop-less : tie.Need-loop-less Inv-loop μ-loop
-loop-less c = omega (arith, one-le-pow (c .before .loop .i) 2 (omega arith))
+loop-less c = omega (arith, pow-pos (c .before .loop .i))
 
 loop-again : tie.Need-loop-again Inv-loop μ-loop
 loop-again c =
@@ -55,7 +55,7 @@ returns c =
       omega arith,
       omega arith,
       omega arith,
-      omega (arith, pos-pow (l .i)),
+      omega (arith, pow-pos (l .i)),
     )
 
 pub depth-of-spec : {M : Type 1} → statement M

@@ -4,11 +4,11 @@ use Prim.Native.Nat.{ℕ, _+_, _-_, _^_}
 use mathlib.Core.Path.{_≡_, refl, ap, _∙_}
 use native.Mathlib.Omega.{arith}
 use borrow.Author.Needs.{needs}
-use Rattle.rules.proofs.Refill.{pos-pow}
 use Rattle.rules.specs.Pair.{levels}
 use Rattle.layout.specs.Image.{elementsFrom, stackWords}
 use Rattle.fresh_image.proofs.Words.{fresh-words}
 use lib.ListN.{length-set}
+use lib.Pow.{pow-pos}
 use Rattle.fresh_image.proofs.make_fresh.Statement.{statement}
 use Rattle.fresh_image.proofs.make_fresh.Tie as tie
 
@@ -22,7 +22,7 @@ add-elements : tie.Need-add-elements
 add-elements c = search needs
 
 sub-stack : tie.Need-sub-stack
-sub-stack c = omega (arith, pos-pow (levels (c .before .before .before .args .n)))
+sub-stack c = omega (arith, pow-pos (levels (c .before .before .before .args .n)))
 
 add-stack : tie.Need-add-stack
 add-stack c = search needs
@@ -52,10 +52,10 @@ slice-write-img-4 : tie.Need-slice-write-img-4
 slice-write-img-4 c = simp length-set (omega arith)
 
 slice-write-img-5 : tie.Need-slice-write-img-5
-slice-write-img-5 c = simp length-set (omega (arith, pos-pow (levels (c .before .before .before .before .before .before .before .args .n))))
+slice-write-img-5 c = simp length-set (omega (arith, pow-pos (levels (c .before .before .before .before .before .before .before .args .n))))
 
 open-bounds-requires : tie.Need-open-bounds-requires
-open-bounds-requires c κs = simp length-set (omega (arith, pos-pow (levels (c .before .before .before .before .before .before .before .before .args .n)), c .before .before .before .before .before .before .depth-of .ensures .0))
+open-bounds-requires c κs = simp length-set (omega (arith, pow-pos (levels (c .before .before .before .before .before .before .before .before .args .n)), c .before .before .before .before .before .before .depth-of .ensures .0))
 
 same-length : tie.Need-same-length
 same-length c = omega (arith, simp length-set at (c .before .before .open-bounds .kept))

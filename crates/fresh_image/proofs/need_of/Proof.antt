@@ -2,8 +2,8 @@
 -- Assumes nothing.
 use native.Mathlib.Omega.{arith}
 use borrow.Author.Needs.{needs}
+use lib.Pow.{pow-pos}
 use Rattle.rules.specs.Pair.{levels}
-use Rattle.rules.proofs.Refill.{pos-pow}
 use Rattle.fresh_image.proofs.need_of.Statement.{statement}
 use Rattle.fresh_image.proofs.need_of.Tie as tie
 
@@ -17,7 +17,7 @@ add-result : tie.Need-add-result
 add-result c = search needs
 
 sub-result : tie.Need-sub-result
-sub-result c = omega (arith, pos-pow (levels (c .before .before .before .args .n)))
+sub-result c = omega (arith, pow-pos (levels (c .before .before .before .args .n)))
 
 add-result-2 : tie.Need-add-result-2
 add-result-2 c = search needs
@@ -32,7 +32,7 @@ add-result-4 : tie.Need-add-result-4
 add-result-4 c = search needs
 
 returns : tie.Need-returns
-returns c = omega (arith, pos-pow (levels (c .before .before .before .args .n)))
+returns c = omega (arith, pow-pos (levels (c .before .before .before .args .n)))
 
 pub need-of-spec : {M : Type 1} → statement M
 need-of-spec =

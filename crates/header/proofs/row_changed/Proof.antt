@@ -25,9 +25,8 @@ use denote.RattleType.{owns}
 use denote.Laws.{Is, shows}
 use denote.Memory.{mem, cellAt, partOf}
 use denote.Lend.{lends-ref, ref-back}
-use denote.Plain.{uint-vals, uint-tells, uint-makes}
+use denote.Plain.{uint-vals, uint-tells, uint-makes, Nothing}
 use denote.Builtin.{u64, usize}
-use denote.Plain.{Nothing}
 use denote.Ref.{RefT, MutRef}
 use denote.Steps.{owned, peeks, heard, nothing, only}
 use denote.Struct.Steps.{spelt}
@@ -40,7 +39,7 @@ use denote.Triple.Table.{entered, cited}
 use denote.Triple.Walked.{says, needs, Stays, stay-none, walkOf, AllGo, goes-none, Walks, ends-at, walked, walk-meets}
 use denote.Triple.Clauses.{ensured, Lasts, lasts}
 use denote.Exit.{yes}
-use Rattle.header.specs.Record.{ROWS, withRow}
+use Rattle.header.specs.Record.{withRow}
 use Rattle.header.specs.declared.Header.{Header}
 use Rattle.header.proofs.Header as T
 use Rattle.header.proofs.Header.Laws as T′
@@ -53,6 +52,7 @@ use Rattle.header.proofs.row_changed.Key.{name as #header·row-changed}
 use Rattle.header.proofs.row_changed as row-changed
 use Rattle.header.proofs.row_changed.Statement as stated
 use Rattle.header.proofs.row_changed.Code as code
+use Rattle.rules.specs.Pair.{ROWS}
 
 -- a record's MIR value, in the laws' spelling of an array
 abbrev mv : Header → Val

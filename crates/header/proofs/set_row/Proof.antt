@@ -37,7 +37,7 @@ use denote.Triple.Table.{entered, cited}
 use denote.Triple.Walked.{says, needs, Stays, stay-ref, stay-none, walkOf, AllGo, goes-none, goes-ref, Walks, ends-at, walked, walk-meets}
 use denote.Triple.Clauses.{ensured, lasts}
 use denote.Exit.{yes}
-use Rattle.header.specs.Record.{ROWS, withRow}
+use Rattle.header.specs.Record.{withRow}
 use Rattle.header.specs.declared.Header.{Header}
 use Rattle.header.proofs.Header as T
 use Rattle.header.proofs.Header.Laws as T′
@@ -50,6 +50,7 @@ use Rattle.header.proofs.set_row.Key.{name as #header·set-row}
 use Rattle.header.proofs.set_row as set-row
 use Rattle.header.proofs.set_row.Statement as stated
 use Rattle.header.proofs.set_row.Code as code
+use Rattle.rules.specs.Pair.{ROWS}
 
 abbrev stayed : Stays (set-row.ended .signature .params) (set-row.ended .kept)
 stayed = (stay-ref (0 ∷ []) tt (plain (λ _. R)), (stay-none (λ _. usize) yes, (stay-none (λ _. u64) yes, (stay-none (λ _. u64) yes, (stay-none (λ _. u64) yes, tt)))))

@@ -1,11 +1,10 @@
-use Prim.Native.Nat.{ℕ, _+_, _-_, _*_, _/_, _%_, _≤_, _<_}
-use mathlib.Core.Path.{_≡_, refl, sym, ap, _∙_}
+use Prim.Native.Nat.{_+_, _/_, _%_, _≤_}
+use mathlib.Core.Path.{refl}
 use native.Mathlib.Omega.{arith}
 use borrow.Author.Needs.{needs}
 use Rattle.lists.specs.Put.{part}
 use Rattle.level.specs.Place.{place}
 use Rattle.level.proofs.Place.{area-place-le, search-turn}
-use lib.ListN.{length, getD, set, take, drop, length-set}
 use Rattle.level.proofs.find_place.Statement.{statement}
 use Rattle.level.proofs.find_place.Tie as tie
 

@@ -1,9 +1,7 @@
-use Prim.Native.Nat.{ℕ, _+_, _-_, _*_, _≤_, _<_}
-use mathlib.Core.Path.{_≡_, refl, sym, ap, _∙_}
+use mathlib.Core.Path.{refl}
 use native.Mathlib.Omega.{arith}
 use borrow.Author.Needs.{needs}
 use Rattle.level.proofs.Place.{steps-over, steps-most}
-use lib.ListN.{length, getD, set, take, drop, length-set}
 use Rattle.level.proofs.step_over.Statement.{statement}
 use Rattle.level.proofs.step_over.Tie as tie
 

@@ -1,10 +1,5 @@
-use Prim.Native.Nat.{ℕ, _+_, _-_, _*_, _≤_, _<_}
-use mathlib.Core.Path.{_≡_, refl, sym, ap, _∙_}
 use native.Mathlib.Omega.{arith}
 use borrow.Author.Needs.{needs}
-use lib.ListN.{length, getD, set, take, drop, length-set}
-use native.Mathlib.Omega.{arith}
-use mathlib.Core.Path.{_∙_}
 use Rattle.level_queue.proofs.Returns.{good-number, decrease-unsound, decrease-id, decrease-key, decrease-taken}
 use Rattle.level_queue.proofs.Making.{image-long}
 use Rattle.level_queue.proofs.decrease.Statement.{statement}

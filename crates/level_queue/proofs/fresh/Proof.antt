@@ -1,10 +1,5 @@
-use Prim.Native.Nat.{ℕ, _+_, _-_, _*_, _≤_, _<_}
-use mathlib.Core.Path.{_≡_, refl, sym, ap, _∙_}
 use native.Mathlib.Omega.{arith}
 use borrow.Author.Needs.{needs}
-use lib.ListN.{length, getD, set, take, drop, length-set}
-use native.Mathlib.Omega.{arith}
-use mathlib.Core.Path.{_∙_}
 use Rattle.level_queue.proofs.Returns.{fresh-none, fresh-many, fresh-short, fresh-made}
 use Rattle.level_queue.proofs.fresh.Statement.{statement}
 use Rattle.level_queue.proofs.fresh.Tie as tie

@@ -1,10 +1,6 @@
-use Prim.Native.Nat.{ℕ, _+_, _-_, _*_, _≤_, _<_}
-use mathlib.Core.Path.{_≡_, refl, sym, ap, _∙_}
+use mathlib.Core.Path.{_∙_}
 use native.Mathlib.Omega.{arith}
 use borrow.Author.Needs.{needs}
-use lib.ListN.{length, getD, set, take, drop, length-set}
-use native.Mathlib.Omega.{arith}
-use mathlib.Core.Path.{_∙_}
 use Rattle.level_queue.proofs.Making.{delete-updatable, delete-pushed}
 use Rattle.level_queue.proofs.inner_delete.Statement.{statement}
 use Rattle.level_queue.proofs.inner_delete.Tie as tie

@@ -5,12 +5,13 @@ use mathlib.Core.Path.{_≡_, refl}
 use native.Mathlib.Omega.{arith}
 use borrow.Author.Needs.{needs}
 use lib.ListN.{length}
+use lib.Pow.{pow-pos, pow-mono}
 use borrow.Author.Tests.{not-true, not-false}
 use Rattle.rules.specs.Heap.{reading}
 use Rattle.layout.specs.Image.{stackFrom}
 use Rattle.image_clauses.specs.Clauses.{updatesUnder, LevelsOk, levelsOf}
 use Rattle.image_clauses.specs.Marks.{marks, Marked}
-use Rattle.image_clauses.specs.Rows.{power-next, power-low, power-le, floor-open, under-turn, under-le}
+use Rattle.image_clauses.specs.Rows.{power-next, floor-open, under-turn, under-le}
 use Rattle.image_clauses.specs.Passes.{level-passes, level-refuses}
 use Rattle.level_tests.proofs.levels_ok.Statement.{statement}
 use Rattle.level_tests.proofs.levels_ok.Tie as tie
@@ -53,8 +54,8 @@ level-ok-requires c κs =
     let e : l .i ≡ suc k = omega arith in
     let h : l .i ≤ a .levels = omega arith in
     let p = power-next k (l .i) e in
-    let q = power-le (l .i) (a .levels) h in
-    let r = power-low k in
+    let q = pow-mono {i = l .i} {j = a .levels} h in
+    let r = pow-pos k in
     let t = under-turn (a .img .now) (a .levels) k (l .i) e h in
     let u = under-le (a .img .now) k (a .levels - k) (a .levels) (omega arith) in
     (omega arith, omega arith, omega arith, omega arith, omega arith, omega arith, floor-open (a .img .now) (a .levels) (s .pre .0 .4) k (omega arith), omega arith)
@@ -85,7 +86,7 @@ mul-at-3 : tie.Need-mul-at-3 Inv-loop μ-loop
 mul-at-3 c = search needs
 
 shared-slice-read-at : tie.Need-shared-slice-read-at Inv-loop μ-loop
-shared-slice-read-at c = omega (arith, power-low (c .before .before .before .before .before .before .before .before .before .before .args .levels))
+shared-slice-read-at c = omega (arith, pow-pos (c .before .before .before .before .before .before .before .before .before .before .args .levels))
 
 add-at-5 : tie.Need-add-at-5 Inv-loop μ-loop
 add-at-5 c =

@@ -1,40 +1,43 @@
--- The text lies within the bytes lent for it.
+-- What is held at the end is finished, and as many bytes are printed as its text has.
 -- Assumes nothing.
-use lib.Seq.{length-take-le}
-use Prim.Native.Nat.{_-_}
-use mathlib.Core.Path.{sym}
+use mathlib.Core.Path.{_≡_}
 use native.Mathlib.Omega.{arith}
 use borrow.Author.Needs.{needs}
+use lib.Seq.{length-take-le}
 use Rattle.queue.proofs.answer_last.Statement.{statement}
 use Rattle.queue.proofs.answer_last.Tie as tie
-
-slice-aggregate-finish : tie.Need-slice-aggregate-finish
-slice-aggregate-finish c = search needs
 
 finish-requires : tie.Need-finish-requires
 finish-requires c κs = search needs
 
-array-share-prefix-out : tie.Need-array-share-prefix-out
-array-share-prefix-out c = search needs
+slice-reshare-prefix-print : tie.Need-slice-reshare-prefix-print
+slice-reshare-prefix-print c = search needs
 
-slice-aggregate-write-all : tie.Need-slice-aggregate-write-all
-slice-aggregate-write-all c =
-    let s = c .before .before .finish in
-    sym (length-take-le (s .result) (s .last .1 .1 .1 .0) (omega (arith, s .ensures .1)))
+slice-aggregate-print : tie.Need-slice-aggregate-print
+slice-aggregate-print c =
+    let f = c .before .before .before .finish in
+    let e = length-take-le (f .result) (f .last .1 .1 .1 .0) (omega (arith, f .ensures .1)) in
+    search needs
 
-write-all-requires : tie.Need-write-all-requires
-write-all-requires c κs = search needs
+print-requires : tie.Need-print-requires
+print-requires c κs = search needs
+
+same-length : tie.Need-same-length
+same-length c = search needs
 
 returns : tie.Need-returns
-returns c = search needs
+returns c =
+    let f = c .before .before .before .before .finish in
+    let p : c .print .result .bytes ≡ f .result = omega (arith, c .print .ensures, length-take-le (f .result) (f .last .1 .1 .1 .0) (omega (arith, f .ensures .1))) in
+    rw p (f .ensures)
 
 pub answer-last-spec : {M : Type 1} → statement M
 answer-last-spec =
     tie.close
     (tie.spec
-    slice-aggregate-finish
     finish-requires
-    array-share-prefix-out
-    slice-aggregate-write-all
-    write-all-requires
+    slice-reshare-prefix-print
+    slice-aggregate-print
+    print-requires
+    same-length
     returns)

@@ -1,68 +1,60 @@
--- The text lies within the bytes lent for it.
+-- The bytes that came are served, and as many are printed as their text has.
 -- Assumes nothing.
-use lib.Seq.{length-take-le}
-use Prim.Native.Nat.{_-_}
-use mathlib.Core.Path.{sym}
+use mathlib.Core.Path.{_≡_}
 use native.Mathlib.Omega.{arith}
 use borrow.Author.Needs.{needs}
+use lib.Seq.{length-take-le}
 use Rattle.queue.proofs.answer_some.Statement.{statement}
 use Rattle.queue.proofs.answer_some.Tie as tie
 
-slice-aggregate-read : tie.Need-slice-aggregate-read
-slice-aggregate-read c = search needs
+read-some-requires : tie.Need-read-some-requires
+read-some-requires c κs = search needs
 
-read-requires : tie.Need-read-requires
-read-requires c κs = search needs
-
-returns : tie.Need-returns
-returns c = search needs
-
-slice-aggregate-count : tie.Need-slice-aggregate-count
-slice-aggregate-count c = search needs
-
-count-requires : tie.Need-count-requires
-count-requires c κs = search needs
-
-array-share-prefix-chunk : tie.Need-array-share-prefix-chunk
-array-share-prefix-chunk c = search needs
+slice-reshare-prefix-serve : tie.Need-slice-reshare-prefix-serve
+slice-reshare-prefix-serve c = search needs
 
 slice-aggregate-serve : tie.Need-slice-aggregate-serve
 slice-aggregate-serve c = search needs
 
-slice-aggregate-serve-2 : tie.Need-slice-aggregate-serve-2
-slice-aggregate-serve-2 c = search needs
-
 serve-requires : tie.Need-serve-requires
 serve-requires c κs = search needs
 
-array-share-prefix-out : tie.Need-array-share-prefix-out
-array-share-prefix-out c = search needs
+slice-reshare-prefix-print : tie.Need-slice-reshare-prefix-print
+slice-reshare-prefix-print c = search needs
 
-slice-aggregate-write-all : tie.Need-slice-aggregate-write-all
-slice-aggregate-write-all c =
-    let s = c .before .before .serve in
-    sym (length-take-le (s .result .end) (s .last .1 .1 .1 .1 .0) (omega (arith, s .ensures .2)))
+slice-aggregate-print : tie.Need-slice-aggregate-print
+slice-aggregate-print c =
+    let s = c .before .before .before .serve in
+    let e = length-take-le (s .result .end) (s .last .1 .1 .1 .1 .0) (omega (arith, s .ensures .2)) in
+    search needs
 
-write-all-requires : tie.Need-write-all-requires
-write-all-requires c κs = search needs
+print-requires : tie.Need-print-requires
+print-requires c κs = search needs
 
-returns-2 : tie.Need-returns-2
-returns-2 c = search needs
+same-length : tie.Need-same-length
+same-length c = search needs
+
+same-length-2 : tie.Need-same-length-2
+same-length-2 c = search needs
+
+returns : tie.Need-returns
+returns c =
+    let s = c .before .before .before .before .serve in
+    let n = c .before .before .before .before .before .before .before .before .before .before .before .read-some in
+    let p : c .print .result .bytes ≡ s .result .end = omega (arith, c .print .ensures, length-take-le (s .result .end) (s .last .1 .1 .1 .1 .0) (omega (arith, s .ensures .2))) in
+    record { goes = rw p (s .ensures .0); within = n .ensures .0; fits = s .ensures .1; ends = rw p (s .ensures .2) }
 
 pub answer-some-spec : {M : Type 1} → statement M
 answer-some-spec =
     tie.close
     (tie.spec
-    slice-aggregate-read
-    read-requires
-    returns
-    slice-aggregate-count
-    count-requires
-    array-share-prefix-chunk
+    read-some-requires
+    slice-reshare-prefix-serve
     slice-aggregate-serve
-    slice-aggregate-serve-2
     serve-requires
-    array-share-prefix-out
-    slice-aggregate-write-all
-    write-all-requires
-    returns-2)
+    slice-reshare-prefix-print
+    slice-aggregate-print
+    print-requires
+    same-length
+    same-length-2
+    returns)

@@ -2,7 +2,6 @@
 -- Assumes nothing.
 use lib.Seq.{length-take-le}
 use Rattle.queue_lines.proofs.Serving.{finishes-none, finishes-line}
-use Prim.Native.Nat.{_-_}
 use mathlib.Core.Path.{_≡_, sym}
 use native.Mathlib.Omega.{arith}
 use borrow.Author.Needs.{needs}

@@ -1,8 +1,8 @@
 -- After each turn the bytes up to `next` are served (goes-then); a turn moves on by a byte, so its text has room.
 -- Assumes nothing.
 use lib.Seq.{take-all}
-use Rattle.command.specs.Answers.{longestText}
-use Rattle.queue_lines.specs.Lines.{room}
+use Rattle.answers.specs.Answers.{longestText}
+use Rattle.lines.specs.Lines.{room}
 use Rattle.queue_lines.specs.Session.{Goes}
 use Rattle.queue_lines.proofs.Serving.{goes-none, goes-then}
 use Prim.Native.Nat.{_-_, _*_, _≤_}

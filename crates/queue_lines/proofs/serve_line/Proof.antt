@@ -3,8 +3,8 @@
 use lib.Seq.{length-take-le}
 use mathlib.Core.Bool.{true, false}
 use borrow.Author.Tests.{not-true, not-false}
-use Rattle.queue_lines.proofs.Serving.{goes-on, goes-answered, gathers-moves}
-use Prim.Native.Nat.{_-_}
+use Rattle.lines.proofs.Holding.{gathers-moves}
+use Rattle.queue_lines.proofs.Serving.{goes-on, goes-answered}
 use mathlib.Core.Path.{_≡_, sym}
 use native.Mathlib.Omega.{arith}
 use borrow.Author.Needs.{needs}

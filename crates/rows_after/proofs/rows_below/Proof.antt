@@ -4,10 +4,10 @@ use Prim.Native.Nat.{_-_, _≤_, _<_}
 use mathlib.Core.Path.{_≡_}
 use native.Mathlib.Omega.{arith}
 use borrow.Author.Needs.{needs}
-use Rattle.header.specs.Record.{ROWS}
 use Rattle.rows_after.proofs.Upto.{Filling, filling-starts, filling-turn, refreshed}
 use Rattle.rows_after.proofs.rows_below.Statement.{statement}
 use Rattle.rows_after.proofs.rows_below.Tie as tie
+use Rattle.rules.specs.Pair.{ROWS}
 
 abbrev Inv-loop : tie.InvT-loop
 Inv-loop k waiting p counts g₀ j₀ g j = (j ≤ k) × (k < ROWS) × Filling g₀ g p counts j

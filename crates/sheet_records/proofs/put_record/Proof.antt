@@ -1,7 +1,6 @@
-use Prim.Native.Nat.{suc}
 -- `sheet_records::put_record` meets its contract: two stores are the record's two words.
 -- Assumes nothing.
-use Prim.Native.Nat.{_+_, _*_}
+use Prim.Native.Nat.{suc, _+_, _*_}
 use mathlib.Core.Path.{_≡_}
 use native.Mathlib.Omega.{arith}
 use borrow.Author.Needs.{needs}

@@ -6,7 +6,6 @@ use mathlib.Core.Path.{_≡_, refl}
 use native.Mathlib.Omega.{arith}
 use borrow.Author.Tests.{eq-eqb, ne-eqb}
 use Rattle.rules.specs.Pair.{OPEN}
-use mathlib.Core.Path.{_≡_, refl}
 use borrow.Author.Needs.{needs}
 use Rattle.stretch_tests.proofs.waits_one.Statement.{statement}
 use Rattle.stretch_tests.proofs.waits_one.Tie as tie

@@ -1,0 +1,2 @@
+-- Answers: what is printed. Assumes nothing.
+pub mod Answers

@@ -1,0 +1,2 @@
+-- Lines: the line that a small buffer holds. Assumes nothing.
+pub mod Lines

@@ -1,0 +1,2 @@
+-- Printing: text written piece by piece. Assumes nothing.
+pub mod Printing

@@ -1,0 +1,2 @@
+-- Responses: a line answered, command by command. Assumes nothing.
+pub mod Responses

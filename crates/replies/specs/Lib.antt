@@ -1,0 +1,2 @@
+-- Replies: what is answered to one line. Assumes nothing.
+pub mod Replies

@@ -1,0 +1,2 @@
+-- Report: what is printed of a sheet. Assumes nothing.
+pub mod Report

@@ -1,0 +1,2 @@
+-- Rows: the vertices' lines one after the other. Assumes nothing.
+pub mod Rows

@@ -1,0 +1,2 @@
+-- Rows: the vertices' lines. Assumes nothing.
+pub mod Rows

@@ -1,5 +1,7 @@
 // Answers as text, written into a lent slice of bytes from a place on: each function says where its text ends, and leaves the other bytes. What is written is
 // specs/Answers; a line with its newline fits LONGEST bytes.
+#![tactic(auto)]
+
 ghost use Rattle.std.specs.Prelude.{◌+◌, ◌≤◌, length};
 ghost use Rattle.text.specs.Stored.{Stored};
 ghost use Rattle.answers.specs.Answers.{min_text, empty_text, refused_text, reached_text, distance_text, unreached_text, longest_text};

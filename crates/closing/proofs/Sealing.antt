@@ -20,7 +20,7 @@ use Rattle.rules.specs.Rebuild.{smallest, add_behind, rebuilt}
 use Rattle.rules.specs.Cuts.{cut, spread, doubles, refill_cuts, rest_cuts, rebuilt_cuts}
 use Rattle.rules.proofs.Tally.{spread-length, rebuilt-waits_last, rebuilt-waits_on}
 use Rattle.rules.proofs.Refill.{cut_last}
-use Rattle.rules.proofs.Dealing.{refill_cuts, rest_cuts}
+use Rattle.rules.proofs.Dealing.{refill_cuts_lem, rest_cuts_lem}
 use Rattle.rules.proofs.Soundness.{sound_firm}
 use Rattle.layout.specs.Words.{words}
 use Rattle.layout.specs.Image.{HEAD, ROW, elements_from, stack, stack_words, lay_out, Roomy}
@@ -70,12 +70,12 @@ module _ {d : Site} {xs : List ℕ} {r : Halt} {q : Refilled} (f : Filled d xs r
   o : OnSite d f.before r
   o = f.site
 
-  at_level : r.level ≡ k
-  at_level = o.landed.level
+  at_level_lem : r.level ≡ k
+  at_level_lem = o.landed.level
 
   -- the page's levels, by cuts
   rebuilt_is : rebuilt s ≡ rebuilt_cuts s
-  rebuilt_is = rw (refill_cuts k b E o.ascends o.within o.some, rest_cuts k b E o.ascends o.within) refl
+  rebuilt_is = rw (refill_cuts_lem k b E o.ascends o.within o.some, rest_cuts_lem k b E o.ascends o.within) refl
 
   firm : Firm n (rebuilt_cuts s)
   firm = sound_firm n (rebuilt_cuts s) (rw rebuilt_is at f.sound)
@@ -111,7 +111,7 @@ module _ {d : Site} {xs : List ℕ} {r : Halt} {q : Refilled} (f : Filled d xs r
 
   -- ---- what the code asks first
   pub level_asks : r.level < ROWS
-  level_asks = omega (arith, at_level, o.size, o.small)
+  level_asks = omega (arith, at_level_lem, o.size, o.small)
 
   pub words_inside : 2 < length xs
   words_inside = omega (arith, xs_length, o.head)
@@ -127,10 +127,10 @@ module _ {d : Site} {xs : List ℕ} {r : Halt} {q : Refilled} (f : Filled d xs r
   on = onward_of (get_or xs 1 0) r.level r.passed (r.passed + q.sunk) (get_or xs 2 0) r.ended
 
   on_last : s.deeper ≡ [] → on ≡ record { next = k; dropped = r.passed; added = 0; waiting = 0 }
-  on_last z = rw (le-leb (get_or xs 1 0) (r.level + 1) (omega (arith, levels_are, o.size, at_level, ap length z)), at_level) refl
+  on_last z = rw (le-leb (get_or xs 1 0) (r.level + 1) (omega (arith, levels_are, o.size, at_level_lem, ap length z)), at_level_lem) refl
 
   on_inner : (l : Level) (ls : List Level) → s.deeper ≡ l ∷ ls → on ≡ record { next = k + 1; dropped = 0; added = length us; waiting = d.waits - r.ended }
-  on_inner l ls z = rw (lt-leb (get_or xs 1 0) (r.level + 1) (omega (arith, levels_are, o.size, at_level, ap length z)), at_level, added_is, waiting_are) refl
+  on_inner l ls z = rw (lt-leb (get_or xs 1 0) (r.level + 1) (omega (arith, levels_are, o.size, at_level_lem, ap length z)), at_level_lem, added_is, waiting_are) refl
 
   -- level k's row and the next's are rows of levels
   pub next_is : (k ≤ on.next) × (on.next ≤ suc k) × (on.next < L)
@@ -219,7 +219,7 @@ module _ {d : Site} {xs : List ℕ} {r : Halt} {q : Refilled} (f : Filled d xs r
       × (length h.bounds ≡ ROWS) × (length h.element_counts ≡ ROWS) × (length h.update_counts ≡ ROWS)
   rows_asks =
       let few = load_asks.0 in
-      (omega (arith, at_level, next_is.0), omega (arith, at_level, next_is.1), omega arith, (added_fits, λ l. next_fits (omega (arith, at_level, l))), column_length ws 0 (on.next + 1) few, column_length ws 1 (on.next + 1) few, column_length ws 2 (on.next + 1) few)
+      (omega (arith, at_level_lem, next_is.0), omega (arith, at_level_lem, next_is.1), omega arith, (added_fits, λ l. next_fits (omega (arith, at_level_lem, l))), column_length ws 0 (on.next + 1) few, column_length ws 1 (on.next + 1) few, column_length ws 2 (on.next + 1) few)
 
   -- ---- word 2
   waits_are : on.waiting ≡ waiting (rebuilt_cuts s)
@@ -233,7 +233,7 @@ module _ {d : Site} {xs : List ℕ} {r : Halt} {q : Refilled} (f : Filled d xs r
   module _ {g : Header} (a : RowsAfter h g q.cuts q.counts r.level q.bound on.next on.added on.waiting) where
     a' : RowsAfter h g q.cuts q.counts k q.bound on.next on.added (waiting (rebuilt_cuts s))
     a' =
-        subst (λ (y : ℕ). RowsAfter h g q.cuts q.counts y q.bound on.next on.added (waiting (rebuilt_cuts s))) at_level
+        subst (λ (y : ℕ). RowsAfter h g q.cuts q.counts y q.bound on.next on.added (waiting (rebuilt_cuts s))) at_level_lem
         (subst (λ (y : ℕ). RowsAfter h g q.cuts q.counts r.level q.bound on.next on.added y) waits_are a)
 
     -- the rows 0 to k, where level k's updates are none
@@ -251,9 +251,9 @@ module _ {d : Site} {xs : List ℕ} {r : Halt} {q : Refilled} (f : Filled d xs r
       n_is = a'.frame.ids ∙ kept_word 0 (omega (arith, o.head)) ∙ f.ids;
       levels_is = a'.frame.size ∙ kept_word 1 (omega (arith, o.head)) ∙ f.size ∙ f.levels_is;
       waiting_is = a'.frame.waits;
-      elements_from = a'.frame.elements ∙ kept_word 3 (omega (arith, o.head)) ∙ o.first ∙ o.head ∙ ap elements_from f.levels_is;
-      stack_from = a'.frame.stack ∙ kept_word 4 (omega (arith, o.head)) ∙ f.stack_at ∙ rw (o.head, f.levels_is) refl;
-      work_from = a'.frame.work ∙ kept_word 5 (omega (arith, o.head)) ∙ o.work ∙ rw (o.head, f.levels_is) refl;
+      elements_from_lem = a'.frame.elements ∙ kept_word 3 (omega (arith, o.head)) ∙ o.first ∙ o.head ∙ ap elements_from f.levels_is;
+      stack_from_lem = a'.frame.stack ∙ kept_word 4 (omega (arith, o.head)) ∙ f.stack_at ∙ rw (o.head, f.levels_is) refl;
+      work_from_lem = a'.frame.work ∙ kept_word 5 (omega (arith, o.head)) ∙ o.work ∙ rw (o.head, f.levels_is) refl;
     }
 
     head_is : length d.top ≡ elements_from (levels n)

@@ -23,9 +23,9 @@ pub record Numbers (g : Header) (n w : ℕ) : Type 0 where
   pub n_is : g.n ≡ n
   pub levels_is : g.levels ≡ levels n
   pub waiting_is : g.waiting ≡ w
-  pub elements_from : g.elements_at ≡ elements_from (levels n)
-  pub stack_from : g.stack_at ≡ stack_from (levels n)
-  pub work_from : g.work_at ≡ work_from n (levels n)
+  pub elements_from_lem : g.elements_at ≡ elements_from (levels n)
+  pub stack_from_lem : g.stack_at ≡ stack_from (levels n)
+  pub work_from_lem : g.work_at ≡ work_from n (levels n)
 
 -- the rows of ks are stored, those of the levels behind them stand already
 module _ (n : ℕ) (g : Header) (ks ls : List Level) (size : length ks + length ls ≡ levels n) (numbers : Numbers g n (waiting (ks ++ ls))) (rows : Says g 0 ks) where
@@ -38,7 +38,7 @@ module _ (n : ℕ) (g : Header) (ks ls : List Level) (size : length ks + length 
   words_are : words_upto g m ≡ head_words n w ++ row_words ks
   unfolding words_upto
   words_are =
-      rw (rows_words g 0 m ks (omega arith) rows, numbers.levels_is, numbers.n_is, numbers.waiting_is, numbers.elements_from, numbers.stack_from, numbers.work_from) refl
+      rw (rows_words g 0 m ks (omega arith) rows, numbers.levels_is, numbers.n_is, numbers.waiting_is, numbers.elements_from_lem, numbers.stack_from_lem, numbers.work_from_lem) refl
 
   pub stored : (top rest : List ℕ) → length top ≡ elements_from (levels n) → Rows top m ls → sets (at_work n top rest 0 (ks ++ ls) [] []) 0 (words_upto g m) ≡ lay_out n (ks ++ ls) ++ rest
   stored top rest long kept =

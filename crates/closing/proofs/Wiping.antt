@@ -91,9 +91,9 @@ module _ {d : Bare} {xs : List ℕ} {r : Halt} (f : Spent d xs r) where
     n_is = word_is 0 (omega (arith, f.top_length)) ∙ f.ids;
     levels_is = levels_are ∙ f.levels_is;
     waiting_is = sym (rw (append-nil (fresh L)) (ap (tally waits) (fresh-reading L)));
-    elements_from = word_is 3 (omega (arith, f.top_length)) ∙ f.elements ∙ ap elements_from f.levels_is;
-    stack_from = word_is 4 (omega (arith, f.top_length)) ∙ f.stack ∙ ap stack_from f.levels_is;
-    work_from = word_is 5 (omega (arith, f.top_length)) ∙ f.work ∙ ap (work_from n) f.levels_is;
+    elements_from_lem = word_is 3 (omega (arith, f.top_length)) ∙ f.elements ∙ ap elements_from f.levels_is;
+    stack_from_lem = word_is 4 (omega (arith, f.top_length)) ∙ f.stack ∙ ap stack_from f.levels_is;
+    work_from_lem = word_is 5 (omega (arith, f.top_length)) ∙ f.work ∙ ap (work_from n) f.levels_is;
   }
 
   pub wiped : sets ws 0 (words_upto (fresh_header h) h.levels) ≡ lay_out n (fresh L) ++ d.rest

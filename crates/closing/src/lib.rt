@@ -1,5 +1,7 @@
 // The end of Delete-Min: what was passed past the last level is dropped, and the header is stored back; or, with nothing left, the image is
 // fresh again.
+#![tactic(auto)]
+
 ghost use Rattle.std.specs.Prelude.{◌≡◌, ◌<◌, ◌≤◌};
 ghost use Rattle.rules.specs.Pair.{ROWS};
 ghost use Rattle.closing.specs.Seal.{onward_of, SomeFilled, Seals};
@@ -12,7 +14,7 @@ use refill::Refilled;
 
 // What a stop means for what comes behind it: the level whose row has more updates, how many of the words passed on are dropped, how many updates
 // are added, and word 2.
-#[derive(Drop)]
+#[derive(Clone, Copy)]
 struct Onward {
     next: usize,
     dropped: usize,

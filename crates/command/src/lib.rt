@@ -1,11 +1,13 @@
 // A line of bytes as a command of the queue program. What each form means is specs/Commands.
+#![tactic(auto)]
+
 ghost use Rattle.std.specs.Prelude.{◌≡◌, [], ◌∷◌, ◌+◌, ◌-◌, ◌<◌, ◌≤◌, length, take, drop};
 ghost use Rattle.lists.specs.Put.{part};
 ghost use Rattle.text.specs.Cuts.{up_to};
 ghost use Rattle.command.specs.Commands.{is_digit, number_of, same, keyword_of, asks_alone, asks_one, asks_two, command_of};
 
 // "`new N`, `dec ID KEY`, `del ID`, `min`", or "a line of any other form".
-#[derive(Drop)]
+#[derive(Clone, Copy)]
 pub enum Command {
     New(u64),
     Dec { id: u64, key: u64 },
@@ -15,7 +17,7 @@ pub enum Command {
 }
 
 // The first word of a command.
-#[derive(Drop)]
+#[derive(Clone, Copy)]
 pub enum Keyword {
     New,
     Dec,
@@ -25,7 +27,7 @@ pub enum Keyword {
 }
 
 // "decimals of 1 to 15 digits": a word's value where it is one.
-#[derive(Drop)]
+#[derive(Clone, Copy)]
 pub enum Number {
     Value(u64),
     NoNumber,

@@ -1,5 +1,7 @@
 // The cuts of the stopping level's elements: the smallest, and the bounds under which the 2, 4, 8 and on smallest lie. Split and refill go by
 // them, and no element leaves its place for it.
+#![tactic(auto)]
+
 ghost use Rattle.std.specs.Prelude.{◌≡◌, ◌+◌, ◌<◌, ◌≤◌, length, replicate};
 ghost use Rattle.rules.specs.Pair.{ROWS};
 ghost use Rattle.lists.specs.Put.{part};

@@ -1,5 +1,7 @@
 // Delete-Min on a sound image, in place: the way down, the split, the answer, the refill, the header stored back; fresh again with nothing left.
 // The meaning is the rule `delete_min` (Rattle.rules.specs.Queue) of the image's heap; specs/Takes.antt says so.
+#![tactic(auto)]
+
 ghost use Rattle.layout.specs.SoundImage.{SoundImage};
 ghost use Rattle.delete_min.specs.Takes.{Takes};
 
@@ -7,7 +9,7 @@ use pair::Pair;
 
 // "The smallest is the answer." "The answer also holds the reach: the reach is the number of levels visited". "If no level holds one, the
 // answer is empty".
-#[derive(Drop)]
+#[derive(Clone, Copy)]
 pub enum Popped {
     Min { id: u64, key: u64, reach: u64 },
     Empty { reach: u64 },

@@ -1,5 +1,7 @@
 // Delete-Min's way down: from level 0 each level takes its updates in order, until one still holds an element.
 // What the words are while it goes is Rattle.at_work.specs.AtWork; where it ends is specs/Landed.antt, by the rule `descend`.
+#![tactic(auto)]
+
 ghost use Rattle.std.specs.Prelude.{◌≡◌, [], ◌+◌, length};
 ghost use Rattle.rules.specs.Pair.{levels};
 ghost use Rattle.rules.specs.Step.{descend};
@@ -12,7 +14,7 @@ use level::Counts;
 
 // Where the way down ends: the level and its room, its elements (none past the last level), where the deeper levels' updates end, how many
 // updates it passed on, and how many waiting ones came to an end.
-#[derive(Drop)]
+#[derive(Clone, Copy)]
 pub struct Halt {
     pub level: usize,
     pub width: usize,

@@ -1,5 +1,7 @@
 // The C face: the outward calls as functions on numbers and slices, a pointer and a count of words each. The answer is 0, or the page's refusal
 // number; Delete-Min's is 1 where it says empty. The inner calls rely on a sound image, which their caller has tested or made.
+#![tactic(auto)]
+
 ghost use Rattle.std.specs.Prelude.{◌≡◌, ◌<◌};
 ghost use Rattle.rules.specs.Pair.{KEYS, pair_of};
 ghost use Rattle.rules.specs.Update.{decrease as decrease_of, delete as delete_of};

@@ -1,4 +1,6 @@
 // How deep n ids are, how many words their image needs, and the fresh image, whatever words stood there.
+#![tactic(auto)]
+
 ghost use Rattle.std.specs.Prelude.{◌≡◌, ◌++◌, ◌+◌, ◌*◌, ◌^◌, ◌≤◌, length, drop};
 ghost use Rattle.rules.specs.Pair.{IDS, levels, ROWS};
 ghost use Rattle.rules.specs.Queue.{fresh};
@@ -9,7 +11,7 @@ use pair::Pair;
 use places::{ELEMENTS_AT, HEAD, LEVELS_AT, N_AT, ROW, STACK, STACK_AT, WORK_AT};
 
 // n ids have L levels, and their size, 2^L, is one more than the element words of all levels.
-#[derive(Drop)]
+#[derive(Clone, Copy)]
 pub struct Depth {
     pub levels: usize,
     pub size: usize,

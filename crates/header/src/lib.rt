@@ -1,5 +1,7 @@
 // The image's header as one record with its level rows: read out of an image, stored back, and one row brought up to date, by value and in place.
 // The meanings are specs/Record.antt.
+#![tactic(auto)]
+
 ghost use Rattle.std.specs.Prelude.{◌≡◌, [], ◌∷◌, ◌+◌, ◌*◌, ◌<◌, ◌≤◌, length};
 ghost use Rattle.std.proofs.lemmas.List.Edits.{sets};
 ghost use Rattle.rules.specs.Pair.{ROWS};
@@ -8,7 +10,7 @@ ghost use Rattle.header.specs.Record.{row_of, header_upto, words_upto, with_row}
 
 // "The header is held as one record with its level rows (at most seventeen)": three flat arrays beside n, L and the offsets. Each field is a
 // word of the image.
-#[derive(Drop)]
+#[derive(Clone, Copy)]
 pub struct Header {
     pub n: u64,
     pub levels: u64,
@@ -27,7 +29,7 @@ impl Header {
 }
 
 // "level i: upper bound, element count, update count"
-#[derive(Drop)]
+#[derive(Clone, Copy)]
 pub struct Row {
     pub bound: u64,
     pub elements: u64,
@@ -137,5 +139,5 @@ pub fn row_changed(h: Header, i: usize, bound: u64, elements: u64, updates: u64)
 
 // The fixed numbers of the code are those of the meanings.
 fn numbers_agree()
-    ensures* { do ⌜ (← (⟦Header::ROWS⟧).entry) ≡ ROWS ⌝ }
+    ensures { Header.ROWS ≡ ROWS }
 {}

@@ -1,5 +1,7 @@
 // An image's header: what may lie at a level, and the clauses on the header's words and level rows.
 // The meanings are Rattle.image_clauses.specs.Clauses.
+#![tactic(auto)]
+
 ghost use Rattle.std.specs.Prelude.{◌≡◌, ◌+◌, ◌*◌, ◌<◌, ◌≤◌, min, length};
 ghost use Rattle.rules.specs.Pair.{IDS, OPEN, levels, ROWS};
 ghost use Rattle.layout.specs.Image.{HEAD, elements_from, stack_words};

@@ -18,7 +18,7 @@ use Rattle.layout.proofs.Image.{length-words, length-pad, length_rows, unwords-a
 use Rattle.rules.proofs.Tally.{tally_append, stores_wait}
 use Rattle.lists.specs.Put.{part}
 use Rattle.image_clauses.specs.Clauses.{bound_word, element_count, update_count, area_from, updates_under, level_at, levels_of}
-use Rattle.image_clauses.proofs.Parts.{part_add, cut_at, part_three}
+use Rattle.image_clauses.proofs.Parts.{part_add, cut_at_lem, part_three}
 
 -- ---- UPDATES READ FROM WORDS
 
@@ -101,7 +101,7 @@ module _ (ws : List ℕ) (L : ℕ) where
   area_exactly (suc d) i e r =
       let k = area_exactly d (suc i) (omega arith) r.1 in
       let l = level i d in
-      let c = cut_at ws (area_from L i) (pad (2 ^ i) l.elements) (element_words (suc i) (levels_of ws L (suc i) d)) (2 ^ i) (2 ^ L - 2 ^ suc i) (length-pad (2 ^ i) l.elements r.0) in
+      let c = cut_at_lem ws (area_from L i) (pad (2 ^ i) l.elements) (element_words (suc i) (levels_of ws L (suc i) d)) (2 ^ i) (2 ^ L - 2 ^ suc i) (length-pad (2 ^ i) l.elements r.0) in
       let s : part ws (area_from L i) (2 ^ L - 2 ^ i) ≡ part ws (area_from L i) (2 ^ i + (2 ^ L - 2 ^ suc i)) = ap (λ (m : ℕ). part ws (area_from L i) m) (area_step d i e) in
       let n : part ws (area_from L i + 2 ^ i) (2 ^ L - 2 ^ suc i) ≡ part ws (area_from L (suc i)) (2 ^ L - 2 ^ suc i) = ap (λ (o : ℕ). part ws o (2 ^ L - 2 ^ suc i)) (area_next i) in (
         λ h. let p = c.0 (sym s ∙ h) in (p.0, k.0 (sym n ∙ p.1)),
@@ -130,7 +130,7 @@ module _ (ws : List ℕ) (L : ℕ) where
   stack_exactly zero i c = (λ h. tt, λ h. refl)
   stack_exactly (suc d) i c =
       let k = stack_exactly d (suc i) c.1 in
-      let q = cut_at ws (stack_from L) (stack (levels_of ws L (suc i) d)) (words (level i d).updates) (updates_under ws (suc i) d) (update_count ws i) (length_stack d (suc i) c.1) in
+      let q = cut_at_lem ws (stack_from L) (stack (levels_of ws L (suc i) d)) (words (level i d).updates) (updates_under ws (suc i) d) (update_count ws i) (length_stack d (suc i) c.1) in
       (λ h. ((q.0 h).1, k.0 (q.0 h).0), λ h. q.1 (k.1 h.1, h.0))
 
   -- word 2 counts the stack's words
@@ -171,10 +171,10 @@ module _ (ws : List ℕ) (n : ℕ) (ls : List Level) (size : length ls ≡ level
       let total : need n ≡ HEAD + (ROW * L + ((2 ^ L - 2 ^ 0) + (stack_words n + n))) = omega arith in
       let o₂ : HEAD + ROW * L ≡ area_from L 0 = omega arith in
       let o₃ : area_from L 0 + (2 ^ L - 2 ^ 0) ≡ stack_from L = omega arith in
-      let c₁ = cut_at ws 0 H (row_words ls ++ (element_words 0 ls ++ (S ++ W))) HEAD (ROW * L + ((2 ^ L - 2 ^ 0) + (stack_words n + n))) refl in
-      let c₂ = cut_at ws HEAD (row_words ls) (element_words 0 ls ++ (S ++ W)) (ROW * L) ((2 ^ L - 2 ^ 0) + (stack_words n + n)) (omega (arith, length_rows ls)) in
-      let c₃ = cut_at ws (area_from L 0) (element_words 0 ls) (S ++ W) (2 ^ L - 2 ^ 0) (stack_words n + n) (omega arith) in
-      let c₄ = cut_at ws (stack_from L) S W (stack_words n) n (length-pad (stack_words n) (stack ls) stacked) in
+      let c₁ = cut_at_lem ws 0 H (row_words ls ++ (element_words 0 ls ++ (S ++ W))) HEAD (ROW * L + ((2 ^ L - 2 ^ 0) + (stack_words n + n))) refl in
+      let c₂ = cut_at_lem ws HEAD (row_words ls) (element_words 0 ls ++ (S ++ W)) (ROW * L) ((2 ^ L - 2 ^ 0) + (stack_words n + n)) (omega (arith, length_rows ls)) in
+      let c₃ = cut_at_lem ws (area_from L 0) (element_words 0 ls) (S ++ W) (2 ^ L - 2 ^ 0) (stack_words n + n) (omega arith) in
+      let c₄ = cut_at_lem ws (stack_from L) S W (stack_words n) n (length-pad (stack_words n) (stack ls) stacked) in
       let t : take (need n) ws ≡ part ws 0 (HEAD + (ROW * L + ((2 ^ L - 2 ^ 0) + (stack_words n + n)))) = ap (λ (k : ℕ). part ws 0 k) total in
       let m₂ : part ws (HEAD + ROW * L) ((2 ^ L - 2 ^ 0) + (stack_words n + n)) ≡ part ws (area_from L 0) ((2 ^ L - 2 ^ 0) + (stack_words n + n)) = ap (λ (o : ℕ). part ws o ((2 ^ L - 2 ^ 0) + (stack_words n + n))) o₂ in
       let m₃ : part ws (area_from L 0 + (2 ^ L - 2 ^ 0)) (stack_words n + n) ≡ part ws (stack_from L) (stack_words n + n) = ap (λ (o : ℕ). part ws o (stack_words n + n)) o₃ in (

@@ -31,8 +31,8 @@ module _ (ws : List ℕ) (o : ℕ) where
       let e : k + m - k ≡ m = omega arith in
       part_split ws o k (k + m) (omega arith) ∙ rw e
 
-  pub cut_at : (a b : List ℕ) (k m : ℕ) → length a ≡ k → (part ws o (k + m) ≡ a ++ b) ↔ ((part ws o k ≡ a) × (part ws (o + k) m ≡ b))
-  cut_at a b k m e =
+  pub cut_at_lem : (a b : List ℕ) (k m : ℕ) → length a ≡ k → (part ws o (k + m) ≡ a ++ b) ↔ ((part ws o k ≡ a) × (part ws (o + k) m ≡ b))
+  cut_at_lem a b k m e =
       let i = cut a b (drop o ws) k m e in
       let d : drop k (drop o ws) ≡ drop (o + k) ws = drop-drop k o ws in (
         λ h. ((i.0 h).0, (rw d at (i.0 h).1)),
@@ -45,7 +45,7 @@ module _ (ws : List ℕ) (o : ℕ) where
     pad_cut =
         let e : N ≡ c + (N - c) = omega arith in
         let z : length (part ws (o + c) (N - c)) ≡ N - c = length-part ws (o + c) (N - c) (omega arith) in
-        let i = cut_at xs (replicate (N - c) 0) c (N - c) size in
+        let i = cut_at_lem xs (replicate (N - c) 0) c (N - c) size in
         let p : pad N xs ≡ xs ++ replicate (N - c) 0 = rw size in
         let q : part ws o (c + (N - c)) ≡ part ws o N = ap (λ (k : ℕ). part ws o k) (sym e) in (
           λ h. let r = i.0 (q ∙ h ∙ p) in (r.0, subst (λ (l : List ℕ). AllZero l) (sym r.1) (are_zeros (N - c))),

@@ -17,8 +17,8 @@ module _ (ws : List ℕ) where
   none h = inl h
 
   -- word 0 is out of range
-  pub out_of_range : SMALLEST ≤ length ws → ((1 ≤ n_of ws) → IDS < n_of ws) → Judged ws not_sound
-  out_of_range h o = (
+  pub out_of_range_lem : SMALLEST ≤ length ws → ((1 ≤ n_of ws) → IDS < n_of ws) → Judged ws not_sound
+  out_of_range_lem h o = (
     λ s. ⊎_elim (λ (a : length ws < SMALLEST). omega arith) (λ (a : InRange (n_of ws) × (length ws < need (n_of ws))). omega (arith, o a.0.0, a.0.1)) s,
     λ s. omega (arith, o s.sound.range.0, s.sound.range.1),
   )

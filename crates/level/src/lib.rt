@@ -1,5 +1,7 @@
 // One level takes its updates, in order, in place. The level's elements stand in a work area, its updates below it; what it passes on is written
 // over the updates from their first word on, since one update passes on at most one word.
+#![tactic(auto)]
+
 ghost use Rattle.std.specs.Prelude.{◌≡◌, ◌+◌, ◌%◌, ◌<◌, ◌≤◌, length};
 ghost use Rattle.lists.specs.Put.{part};
 ghost use Rattle.rules.specs.Pair.{IDS, OPEN};
@@ -14,7 +16,7 @@ ghost use Rattle.level.specs.Run.{Desk, TookAll};
 use pair::{Pair, Update};
 
 // Elements held now, words passed on, and Decreases and Deletes that came to an end.
-#[derive(Drop)]
+#[derive(Clone, Copy)]
 pub struct Counts {
     pub elements: usize,
     pub passed: usize,

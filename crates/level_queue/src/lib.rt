@@ -1,5 +1,7 @@
 // OUTWARD. The queue's calls on a lent image: any slice, any numbers. A call that is not taken gives the page's number and writes nothing. What each answers
 // and leaves is Rattle.layout.specs.Calls; the demands are Rattle.demands.specs. Each call on an image has an inner twin for an image that is known to be sound.
+#![tactic(auto)]
+
 ghost use Rattle.std.specs.Prelude.{◌≡◌, ◌<◌};
 ghost use Rattle.rules.specs.Pair.{KEYS, pair_of};
 ghost use Rattle.rules.specs.Update.{decrease as decrease_of, delete as delete_of};
@@ -19,14 +21,14 @@ use places::{N_AT, WAITING_AT};
 use sound::Verdict;
 
 // "These two, and the making of a fresh image, answer only that they were taken." "A refusal returns its number alone."
-#[derive(Drop)]
+#[derive(Clone, Copy)]
 pub enum Answer {
     Taken,
     Refused(u64),
 }
 
 // "The smallest is the answer", with the reach; "If no level holds one, the answer is empty"; or the refusal.
-#[derive(Drop)]
+#[derive(Clone, Copy)]
 pub enum MinAnswer {
     Min { id: u64, key: u64, reach: u64 },
     Empty { reach: u64 },

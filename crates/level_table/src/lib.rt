@@ -1,5 +1,7 @@
 // One level takes many updates by a table: a word for each id in the work area, so that no update looks anything up. The elements become the
 // table in place, each update is taken at the word of its id, and the table becomes the elements again. Few updates are taken as in `level`.
+#![tactic(auto)]
+
 ghost use Rattle.std.specs.Prelude.{◌≡◌, ◌+◌, ◌%◌, ◌<◌, ◌≤◌, length};
 ghost use Rattle.std.proofs.lemmas.List.Edits.{sets};
 ghost use Rattle.lists.specs.Put.{part};
@@ -16,7 +18,7 @@ use pair::{Pair, Update};
 const FEW: usize = 16;
 
 // Words passed on, and Decreases and Deletes that came to an end.
-#[derive(Drop)]
+#[derive(Clone, Copy)]
 struct Moved {
     passed: usize,
     ended: usize,

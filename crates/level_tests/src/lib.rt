@@ -1,5 +1,7 @@
 // One level of an image, and all its levels from the deepest up: their words and the order of their entries, each used word read once.
 // The meanings are Rattle.image_clauses.specs.Clauses and Passes.
+#![tactic(auto)]
+
 ghost use Rattle.std.specs.Prelude.{◌≡◌, ◌+◌, ◌*◌, ◌/◌, ◌<◌, ◌≤◌, ◌^◌, length};
 ghost use Rattle.rules.specs.Pair.{OPEN, ROWS};
 ghost use Rattle.rules.specs.Heap.{reading};

@@ -1,4 +1,6 @@
 // Input in chunks of any length, cut into lines of any length: the line that is being read is held in a small buffer. What it holds is specs/Lines.
+#![tactic(auto)]
+
 ghost use Rattle.std.specs.Prelude.{◌≤◌, [], ◌∷◌, length};
 ghost use Rattle.text.specs.Stored.{Stored};
 ghost use Rattle.lines.specs.Lines.{room, kept, Gathers};
@@ -9,7 +11,7 @@ pub const ROOM: usize = 36;
 const NEWLINE: u8 = 10;
 
 // Where the next byte of a chunk stands, how many bytes of the line are held, and whether its newline came.
-#[derive(Drop)]
+#[derive(Clone, Copy)]
 pub struct Gathered {
     pub next: usize,
     pub held: usize,

@@ -1,5 +1,7 @@
 // One reading of a level's element words and of its update words: each word is tested, and noted in a table that holds for each id what its
 // last entry was (0 nothing yet, 1 a Delete, 2 any other). The meanings are Rattle.image_clauses.specs.Marks.
+#![tactic(auto)]
+
 ghost use Rattle.std.specs.Prelude.{[], ◌∷◌, ◌+◌, ◌<◌, ◌≤◌, length};
 ghost use Rattle.plain.specs.Lists.{Every};
 ghost use Rattle.lists.specs.Put.{part};

@@ -1,12 +1,14 @@
 // A pair as one word, and an update as one word, with the fixed numbers of both. The meanings are Rattle.rules.specs.Pair and
 // Rattle.layout.specs.Words; a caller's straight-line code needs no proof of its own.
+#![tactic(auto)]
+
 ghost use Rattle.std.specs.Prelude.{◌≡◌, ◌/◌, ◌%◌, ◌<◌, min};
 ghost use Rattle.rules.specs.Pair.{IDS, KEYS, OPEN, pair_of, key_of, id_of};
 ghost use Rattle.rules.specs.Update.{decrease, delete, sink};
 ghost use Rattle.layout.specs.Words.{kind_in, word, SINK};
 
 // "A pair is key x 65,536 + id, so whole numbers compare in the right order."
-#[derive(Drop)]
+#[derive(Clone, Copy)]
 pub struct Pair {
     pub word: u64,
 }
@@ -47,7 +49,7 @@ impl Pair {
 }
 
 // "An update word is kind x 2^56 + pair; kind 1 Decrease, 2 Delete (key 0), 3 Sink."
-#[derive(Drop)]
+#[derive(Clone, Copy)]
 pub struct Update {
     pub word: u64,
 }
@@ -98,10 +100,10 @@ impl Update {
 
 // The fixed numbers of the code are those of the meanings.
 fn numbers_agree()
-    ensures* { do ⌜ ((← (⟦Pair::OPEN⟧).entry) ≡ OPEN) × ((← (⟦Pair::KEY_LIMIT⟧).entry) ≡ KEYS) × ((← (⟦Pair::IDS⟧).entry) ≡ IDS) × ((← (⟦Update::SINK_TAG⟧).entry) ≡ SINK) ⌝ }
+    ensures { (Pair.OPEN ≡ OPEN) × (Pair.KEY_LIMIT ≡ KEYS) × (Pair.IDS ≡ IDS) × (Update.SINK_TAG ≡ SINK) }
 {}
 
 // The kinds of the code are those of the meanings, whatever the pair.
 fn kinds_agree(p: u64)
-    ensures* { do ⌜ ((← (⟦Update::DECREASE⟧).entry) ≡ kind_in (decrease p)) × ((← (⟦Update::DELETE⟧).entry) ≡ kind_in (delete p)) × ((← (⟦Update::SINK⟧).entry) ≡ kind_in (sink p)) ⌝ }
+    ensures { (Update.DECREASE ≡ kind_in (decrease p)) × (Update.DELETE ≡ kind_in (delete p)) × (Update.SINK ≡ kind_in (sink p)) }
 {}

@@ -1,5 +1,7 @@
 // The pieces of a printed line, written into a lent slice of bytes from a place on: a number's digits, a number with a byte behind it, a word. Each function says where
 // its piece ends, and leaves the other bytes.
+#![tactic(auto)]
+
 ghost use Rattle.std.specs.Prelude.{◌+◌, ◌<◌, ◌≤◌, ◌≡◌, length};
 ghost use Rattle.text.specs.Decimals.{decimal, field, glyph as Decimals·glyph};
 ghost use Rattle.text.specs.Stored.{Stored};

@@ -1,5 +1,7 @@
 // Where the words of an image lie, by name: the header's words, the words before the rows and of a row, the stack's words for each id, the smallest
 // slice. The meanings are Rattle.layout.specs.Image; every other crate of code cites these names.
+#![tactic(auto)]
+
 ghost use Rattle.std.specs.Prelude.{◌≡◌};
 ghost use Rattle.layout.specs.Image.{HEAD as head_of, ROW as row_of, stack_words};
 ghost use Rattle.layout.specs.SoundImage.{SMALLEST as smallest_of};
@@ -36,5 +38,5 @@ pub const SMALLEST: usize = 14;
 
 // The names of the code are those of the meanings.
 fn places_agree()
-    ensures* { do ⌜ ((← (⟦HEAD⟧).entry) ≡ head_of) × ((← (⟦ROW⟧).entry) ≡ row_of) × ((← (⟦STACK⟧).entry) ≡ stack_words 1) × ((← (⟦SMALLEST⟧).entry) ≡ smallest_of) ⌝ }
+    ensures { (HEAD ≡ head_of) × (ROW ≡ row_of) × (STACK ≡ stack_words 1) × (SMALLEST ≡ smallest_of) }
 {}

@@ -1,1 +1,2 @@
 // Meanings only: tables of refusals, lists of pairs. No function.
+#![tactic(auto)]

@@ -1,4 +1,6 @@
 // One update pushed at level 0 of a sound image that has room for it: three words change.
+#![tactic(auto)]
+
 ghost use Rattle.std.specs.Prelude.{◌≡◌, ◌+◌, ◌≤◌, length, drop};
 ghost use Rattle.rules.specs.Queue.{push as pushed};
 ghost use Rattle.layout.specs.Words.{unword};

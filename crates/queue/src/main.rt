@@ -1,5 +1,7 @@
 // `queue`: reads lines of commands, and prints what specs/Session of queue_lines says. Here bytes are only moved: in by chunks, out as the texts come. Which bytes the
 // system gave and took no contract can say; specs/Answered says what the texts are of the bytes that stand in the chunk, and how much was read and printed.
+#![tactic(auto)]
+
 ghost use Rattle.std.specs.Prelude.{ℕ, ◌*◌, ◌≤◌, ◌<◌, ◌≡◌, List, length};
 ghost use Rattle.answers.specs.Answers.{longest_text};
 ghost use Rattle.lines.specs.Lines.{room, Holds};
@@ -8,6 +10,7 @@ ghost use Rattle.queue.specs.Reads.{reads_left};
 ghost use Rattle.queue.specs.Answered.{cleared, Turned, Answered};
 
 use lines::ROOM;
+use std::io::{Read, Write};
 use streams::Printed;
 
 // The words of the image, for 1,024 ids.
@@ -20,7 +23,7 @@ const TEXT: usize = 34304;
 const READS: usize = 281474976710656;
 
 // One read: the bytes that came, how many are held of the last line, and the receipt for the text.
-#[derive(Drop)]
+#[derive(Clone, Copy)]
 struct Turn {
     came: usize,
     held: usize,
@@ -28,23 +31,34 @@ struct Turn {
 }
 
 // The whole run: the bytes that came, those of the last read, and the receipt for what was printed.
-#[derive(Drop)]
+#[derive(Clone, Copy)]
 struct Moved {
     came: usize,
     last: usize,
     printed: Printed,
 }
 
-fn main() {
+fn main(rt: HostRuntime) {
+    let mut input = rt.stdin();
+    let mut output = rt.stdout();
     let mut chunk = [0u8; CHUNK];
     let mut line = [0u8; ROOM];
     let mut image = [0u64; IMAGE];
     let mut out = [0u8; TEXT];
-    answer_all(&mut chunk, &mut line, &mut image, &mut out);
+    answer_all(
+        &mut input,
+        &mut output,
+        &mut chunk,
+        &mut line,
+        &mut image,
+        &mut out,
+    );
 }
 
 // Answers the input to its end.
-fn answer_all(
+fn answer_all<R: Read, W: Write>(
+    input: &mut R,
+    output: &mut W,
     chunk: &mut [u8; CHUNK],
     line: &mut [u8; ROOM],
     image: &mut [u64; IMAGE],
@@ -59,14 +73,14 @@ fn answer_all(
     let mut printed = streams::nothing();
     let mut reads = READS;
     while 0 < reads {
-        let t = answer_some(chunk, line, held, image, out);
+        let t = answer_some(input, output, chunk, line, held, image, out);
         last = t.came;
         held = t.held;
         came += last;
         printed = streams::both(printed, t.printed);
         reads = reads_left(reads, last, printed);
     }
-    let p = answer_last(line, held, image, out);
+    let p = answer_last(output, line, held, image, out);
     Moved {
         came: came,
         last: last,
@@ -75,7 +89,9 @@ fn answer_all(
 }
 
 // Reads once, answers the lines that came, and prints the text.
-fn answer_some(
+fn answer_some<R: Read, W: Write>(
+    input: &mut R,
+    output: &mut W,
     chunk: &mut [u8],
     line: &mut [u8; ROOM],
     held: usize,
@@ -85,13 +101,13 @@ fn answer_some(
     requires { (held ≤ room) × (longest_text * length chunk.old ≤ length out.old) }
     ensures { Turned chunk.new line.old held image.old out.old result line.new image.new out.new }
 {
-    let n = streams::read_some(chunk);
+    let n = streams::read_some(input, chunk);
     let s = queue_lines::serve(&chunk[..n], line, held, image, out);
     let end = s.end;
     Turn {
         came: n,
         held: s.held,
-        printed: streams::print(&out[..end]),
+        printed: streams::print(output, &out[..end]),
     }
 }
 
@@ -110,10 +126,16 @@ fn reads_left(reads: usize, came: usize, printed: Printed) -> usize
 }
 
 // "The last line may lack its newline": answers what is held at the end.
-fn answer_last(line: &[u8; ROOM], held: usize, image: &mut [u64; IMAGE], out: &mut [u8]) -> Printed
+fn answer_last<W: Write>(
+    output: &mut W,
+    line: &[u8; ROOM],
+    held: usize,
+    image: &mut [u64; IMAGE],
+    out: &mut [u8],
+) -> Printed
     requires { (held ≤ room) × (longest_text ≤ length out.old) }
     ensures { ((l : List ℕ) → Holds line.now l held → Finishes l image.old out.old image.new out.new result.bytes) × (result.bytes ≤ longest_text) }
 {
     let end = queue_lines::finish(line, held, image, out);
-    streams::print(&out[..end])
+    streams::print(output, &out[..end])
 }

@@ -1,5 +1,7 @@
 // The queue program but for its reading and writing: input in chunks of any length is cut into lines, and each line is answered on the lent image, its text in lent
 // bytes. What it does is specs/Session, on the lines of the whole input.
+#![tactic(auto)]
+
 ghost use Rattle.std.specs.Prelude.{ℕ, ◌+◌, ◌*◌, ◌≤◌, ◌<◌, List, length};
 ghost use Rattle.lines.specs.Lines.{room, Holds};
 ghost use Rattle.answers.specs.Answers.{longest_text};
@@ -9,7 +11,7 @@ use lines::gather;
 use replies::respond;
 
 // Where the next byte of a chunk stands, how many bytes of the line are held, and where the text ends.
-#[derive(Drop)]
+#[derive(Clone, Copy)]
 pub struct Served {
     pub next: usize,
     pub held: usize,

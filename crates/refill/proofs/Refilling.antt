@@ -89,8 +89,8 @@ module _ (d : Site) (xs : List ℕ) (r : Halt) (o : OnSite d xs r) where
   abbrev c : ℕ
   c = cut b (2 ^ s.level) E
 
-  at_level : r.level ≡ s.level
-  at_level = o.landed.level
+  at_level_lem : r.level ≡ s.level
+  at_level_lem = o.landed.level
 
   -- a word of the header is still as it was
   word_is : (j : ℕ) → j < length top → get_or xs j 0 ≡ get_or top j 0
@@ -103,7 +103,7 @@ module _ (d : Site) (xs : List ℕ) (r : Halt) (o : OnSite d xs r) where
   work_is = word_is 5 (omega (arith, o.head)) ∙ o.work
 
   bound_is : word_at xs 0 r.level ≡ b
-  bound_is = rw at_level (word_is (HEAD + ROW * s.level + 0) (omega (arith, o.head, o.size)) ∙ o.landed.bound)
+  bound_is = rw at_level_lem (word_is (HEAD + ROW * s.level + 0) (omega (arith, o.head, o.size)) ∙ o.landed.bound)
 
   end_is : end ≡ stack_place (length top) L + length (stack s.deeper) + length s.passed
   end_is = omega (arith, o.landed.at, o.landed.passed)
@@ -116,7 +116,7 @@ module _ (d : Site) (xs : List ℕ) (r : Halt) (o : OnSite d xs r) where
 
   -- what the code reads
   pub words_inside : (5 < length xs) × (HEAD + ROW * r.level + ROW ≤ length xs)
-  words_inside = (omega (arith, xs_length, o.head), omega (arith, xs_length, o.head, o.size, at_level))
+  words_inside = (omega (arith, xs_length, o.head), omega (arith, xs_length, o.head, o.size, at_level_lem))
 
   stands : part xs work m ≡ E
   stands =
@@ -128,7 +128,7 @@ module _ (d : Site) (xs : List ℕ) (r : Halt) (o : OnSite d xs r) where
     omega (arith, xs_length, work_is, o.landed.elements, o.few),
     omega (arith, end_is, work_is, o.landed.elements, o.spare),
     o.landed.some,
-    omega (arith, at_level, o.size, o.small),
+    omega (arith, at_level_lem, o.size, o.small),
     ap (λ (z : List ℕ). part z end m) o.landed.words
         ∙ rw end_is (behind_read n L top d.rest (suc s.level) s.deeper o.size o.roomy s.passed E room o.few m (omega (arith, o.landed.elements, o.spare))),
   )
@@ -139,11 +139,11 @@ module _ (d : Site) (xs : List ℕ) (r : Halt) (o : OnSite d xs r) where
   -- ---- with the cuts
   module _ (p : List ℕ) (q : Ladder (word_at xs 0 r.level) (part xs work m) r.level p) where
     pub ladder_is : Ladder b E s.level p
-    ladder_is = rw (bound_is, stands, at_level) at q
+    ladder_is = rw (bound_is, stands, at_level_lem) at q
 
     module _ (v : ℕ) (e : v ≡ last_cut (get_or p r.level 0) r.level m (word_at xs 0 r.level)) where
       pub v_is : v ≡ c
-      v_is = e ∙ rw (bound_is, at_level, ladder_is.at s.level (omega arith), o.landed.elements) (last_is b E s.level)
+      v_is = e ∙ rw (bound_is, at_level_lem, ladder_is.at s.level (omega arith), o.landed.elements) (last_is b E s.level)
 
       module _ (kept : ℕ) (zs : List ℕ) (k : Parted kept xs zs work m end SINK v) where
         abbrev F : List ℕ
@@ -188,7 +188,7 @@ module _ (d : Site) (xs : List ℕ) (r : Halt) (o : OnSite d xs r) where
         put_on = zs_is ∙ level_fill n L top d.rest s.level c [] s.deeper (omega arith) (s.passed ++ rest_cuts s) F
 
         pub on_deck : OnDeck (deck d) zs first work kept r.level r.width p
-        on_deck = rw at_level (record {
+        on_deck = rw at_level_lem (record {
           words = put_on;
           first_is = first_is;
           work_is = work_is;
@@ -208,7 +208,7 @@ module _ (d : Site) (xs : List ℕ) (r : Halt) (o : OnSite d xs r) where
         pub refilled : (ys counts : List ℕ) → Dealt (deck d) ys r.level counts
             → Refills d ys (record { cuts = p; counts = counts; bound = v; sunk = m - kept })
         refilled ys counts g =
-            let g' : Dealt (deck d) ys s.level counts = rw at_level at g in
+            let g' : Dealt (deck d) ys s.level counts = rw at_level_lem at g in
             record {
               words = g'.words ∙ ap (λ (ls : List Level). at_work n top d.rest 0 ls (s.passed ++ rest_cuts s) []) (sym (append_assoc (spread doubles b E (suc (smallest E)) 0 s.level) (record { bound = c; elements = []; updates = [] } ∷ []) s.deeper));
               ladder = ladder_is;

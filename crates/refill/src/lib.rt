@@ -1,5 +1,7 @@
 // Delete-Min once it has stopped: the split at the stopping level, the rest made Sinks behind what was passed on, and the levels above filled
 // again. The header's words wait (Rattle.rows_after).
+#![tactic(auto)]
+
 ghost use Rattle.std.specs.Prelude.{◌≡◌, ◌<◌};
 ghost use Rattle.rules.specs.Pair.{ROWS};
 ghost use Rattle.refill.specs.Deck.{SomeDeck, Deals};
@@ -10,7 +12,7 @@ use header::Header;
 use pair::Update;
 
 // The cuts, level k's new bound, the element counts of the levels below it (what stands behind them says nothing), and how many pairs became Sinks.
-#[derive(Drop)]
+#[derive(Clone, Copy)]
 pub struct Refilled {
     pub cuts: [u64; Header::ROWS],
     pub counts: [u64; Header::ROWS],

@@ -1,4 +1,6 @@
 // One line of the queue program's input answered: its command is a call on the lent image, and the call's answer is text in lent bytes. What it does is specs/Replies.
+#![tactic(auto)]
+
 ghost use Rattle.std.specs.Prelude.{◌+◌, ◌≤◌, length};
 ghost use Rattle.text.specs.Stored.{Stored};
 ghost use Rattle.answers.specs.Answers.{longest_text};

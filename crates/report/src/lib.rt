@@ -1,4 +1,6 @@
 // The program `distances` but for its reading and writing: the text of a sheet's run in lent bytes. What it is is specs/Report.
+#![tactic(auto)]
+
 ghost use Rattle.std.specs.Prelude.{◌+◌, ◌*◌, ◌≤◌, length};
 ghost use Rattle.answers.specs.Answers.{longest_text};
 ghost use Rattle.report.specs.Report.{Reports, Answers};

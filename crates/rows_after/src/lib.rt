@@ -1,4 +1,6 @@
 // The header brought up to date after a stop, before it is stored back: the rows of the levels 0 to k, and of level k+1, which waits with more.
+#![tactic(auto)]
+
 ghost use Rattle.std.specs.Prelude.{◌≡◌, ◌<◌, ◌≤◌, suc, length};
 ghost use Rattle.rules.specs.Pair.{ROWS};
 ghost use Rattle.rows_after.specs.Rows.{MoreFits, Refreshed, RowsAfter};

@@ -114,8 +114,8 @@ module _ (k b : ℕ) (E : List ℕ) (a : Asc 0 E) (w : Every (λ p. p ≤ b) E) 
           let n : length (kept k E) ≡ 2 ^ k = simp (length-take, length-sort) (omega arith) in
           rw (lt-ltb (2 ^ k) (length E) h, n) (get_or-take (2 ^ k) (sort E) (2 ^ k - 1) 0 (omega (arith, pow_pos k)))
 
-  pub rest_cuts : rest k E ≡ stores (sift (ltb (cut b (2 ^ k) E)) E)
-  rest_cuts =
+  pub rest_cuts_lem : rest k E ≡ stores (sift (ltb (cut b (2 ^ k) E)) E)
+  rest_cuts_lem =
       let c = cut b (2 ^ k) E in
       let n : rank c E ≡ min (2 ^ k) (length E) = cut_rank b 0 E a w (2 ^ k) (pow_pos k) in
       let q : min (2 ^ k) (length (sort E)) ≡ rank c (sort E) = omega (arith, length-sort E, count-sort (λ p. leb p c) E) in
@@ -123,8 +123,8 @@ module _ (k b : ℕ) (E : List ℕ) (a : Asc 0 E) (w : Every (λ p. p ≤ b) E) 
       drop-min (2 ^ k) (sort E) ∙ ap (λ (i : ℕ). drop i (sort E)) q ∙ drop_rank c 0 (sort E) (up_sort 0 E a) ∙ sift-sort (ltb c) 0 E a in
       ap (λ (S : List ℕ). stores (by_id S)) d ∙ ap stores (by_id-sort 0 (sift (ltb c) E) (asc_sift (ltb c) 0 E a))
 
-  pub refill_cuts : 0 < length E → refill k b E ≡ refill_cuts b E k
-  refill_cuts some =
+  pub refill_cuts_lem : 0 < length E → refill k b E ≡ refill_cuts b E k
+  refill_cuts_lem some =
       let n : under (suc (smallest E)) E ≡ min 1 (length E) = under_suc (smallest E) E ∙ rank_least b 0 E a w some ∙ omega arith in
       let e = deal_spread b E a w doubles (λ j. omega (arith, pow-suc 2 (suc j))) (2 ^ k) k 0 1 (suc (smallest E)) refl fit n (omega (arith, at_le_cut b 0 E a w 0 2 (omega arith) some)) in
       rw (split_bound_cuts, e) refl
@@ -153,7 +153,7 @@ deal-parts E L a w h =
 pub rebuilt_cuts_lem : (Z : ℕ → ℕ → Type 0) (n : ℕ) (m : ℕ → Held) (s : Stop) → Stopped Z n m s → rebuilt s ≡ rebuilt_cuts s
 rebuilt_cuts_lem Z n m s k =
     let w = all_within Z n m s k in
-    rw (refill_cuts s.level s.bound s.elements k.ascends w k.some, rest_cuts s.level s.bound s.elements k.ascends w) refl
+    rw (refill_cuts_lem s.level s.bound s.elements k.ascends w k.some, rest_cuts_lem s.level s.bound s.elements k.ascends w) refl
 
 pub tidy_cuts_lem : (n : ℕ) (ls : List Level) → Proper n (live ls) → n ≤ 2 ^ length ls → tidy n ls ≡ tidy_cuts n (length ls) (live ls)
 unfolding tidy

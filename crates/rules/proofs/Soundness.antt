@@ -112,8 +112,8 @@ module _ (n : ℕ) (ls : List Level) where
         let us = updates_at ls k in
         every_both (λ u. Valid n (pair_in u)) Keyless us (every_both (λ u. id_in u < n) (λ u. pair_in u < OPEN) us (s.update_ids_below k) (s.update_pairs k)) (s.deletes_keyless k)
 
-    level_of : (k j : ℕ) → k < length ls → j ≡ 0 + k → LevelFirm n (floor 0 (take k ls)) j (level_at ls k)
-    level_of k j h q =
+    level_of_lem : (k j : ℕ) → k < length ls → j ≡ 0 + k → LevelFirm n (floor 0 (take k ls)) j (level_at ls k)
+    level_of_lem k j h q =
         let q' : j ≡ k = omega arith in
         rw q' (record {
           rises = rises_to k h;
@@ -126,8 +126,8 @@ module _ (n : ℕ) (ls : List Level) where
           clear = clear_of k h;
         })
 
-    ends_of : Ends n (floor 0 ls) (length ls)
-    ends_of = (
+    ends_of_lem : Ends n (floor 0 ls) (length ls)
+    ends_of_lem = (
       floor_last 0 (levels n) ls s.size (levels_least n s.range).0 ∙ ap suc s.last_open,
       rw s.size (levels_fit n s.range),
     )
@@ -135,7 +135,7 @@ module _ (n : ℕ) (ls : List Level) where
     pub sound_firm : Firm n ls
     sound_firm = record {
       size = s.size;
-      chain = chain_of (Ends n) n 0 0 (length ls) ls (omega arith) level_of ends_of;
+      chain = chain_of (Ends n) n 0 0 (length ls) ls (omega arith) level_of_lem ends_of_lem;
       order = λ x. (deletes_exactly (only x (reading ls))).0 (s.order x);
       no_sink = first ls s.no_sink;
       few = s.few;

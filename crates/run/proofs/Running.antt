@@ -20,7 +20,7 @@ use Rattle.walks.specs.Settling.{settle}
 use Rattle.walks.proofs.Fair.{Fair}
 use Rattle.walks.proofs.Front.{Settled}
 use Rattle.walks.proofs.Run.{ended}
-use Rattle.walks.proofs.Keys.{reached_few, reached_none, Going, begun_going, least_new, one_more, offers_valid, turn_going}
+use Rattle.walks.proofs.Keys.{reached_few, reached_none, Going, begun_going, least_new, one_more_lem, offers_valid, turn_going}
 use Rattle.sheet_format.specs.Sheet.{vertices, row}
 use Rattle.runs.specs.Run.{source_of, reached, ran_with}
 use Rattle.runs.proofs.Run.{accepted_fair}
@@ -87,7 +87,7 @@ module _ (n : ℕ) (rows : ℕ → List Half) (source : ℕ) where
         turns_more e =
             let h : AfterTurn n rows t true ds' ws' = subst (λ (b : Bool). AfterTurn n rows t b ds' ws') e this in
             let p = h.0 in
-            let one = one_more n rows source r.fair t.settled t.waiting r.going p h.1 in (
+            let one = one_more_lem n rows source r.fair t.settled t.waiting r.going p h.1 in (
               record {
                 fair = r.fair;
                 state = turned rows p t;

@@ -1,6 +1,8 @@
 // OUTWARD. The run over a lent sheet: least distances into a lent slice, with a lent image for its queue. Any bytes, any slices. What it answers and leaves is
 // `RunMeets` (Rattle.runs.specs.Run). The distance slice is the run's only mark: a word holds a vertex's distance or its tentative one, and since a settled
 // vertex is never offered less than its distance, which of the two it is need not be told.
+#![tactic(auto)]
+
 ghost use Rattle.std.specs.Prelude.{◌≡◌, ◌<◌, ◌≤◌, length};
 ghost use Rattle.std.proofs.lemmas.List.Edits.{sets};
 ghost use Rattle.rules.specs.Pair.{InRange};
@@ -18,7 +20,7 @@ use pair::Pair;
 use sheet::Acceptance;
 
 // "returns the number reached"; "A refusal returns its number alone".
-#[derive(Drop)]
+#[derive(Clone, Copy)]
 pub enum RunAnswer {
     Reached(u64),
     Refused(u64),

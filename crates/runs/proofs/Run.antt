@@ -15,7 +15,7 @@ use Rattle.plain.proofs.Tables.{first_unique, silent_first, Numbered, first_exac
 use Rattle.rules.specs.Update.{Held}
 use Rattle.walks.specs.Walks.{Table}
 use Rattle.walks.proofs.Fair.{Fair}
-use Rattle.walks.proofs.Main.{settled_table, distance_words_unique, reached_unique}
+use Rattle.walks.proofs.Main.{settled_table_lem, distance_words_unique, reached_unique}
 use Rattle.sheet_format.specs.Sheet.{vertices, row, sheet_tests, refusal}
 use Rattle.sheet_format.specs.Accepted.{Accepted}
 use Rattle.sheet_format.specs.Writer.{Edge, written, write_refusal}
@@ -67,7 +67,7 @@ module _ (s ds ws : List ℕ) where
 
   -- an accepted run is the table of least sums over walks
   pub run_ran : Silent (run_refusals s ds ws) → Ran s ds ws (run_call s ds ws)
-  run_ran h = (settled_table s, settled_table (vertices s) (row s) (source_of s) (accepted_fair (run_accepted h)), run_silent h)
+  run_ran h = (settled_table s, settled_table_lem (vertices s) (row s) (source_of s) (accepted_fair (run_accepted h)), run_silent h)
 
   pub run_meets : RunMeets s ds ws (run_call s ds ws)
   run_meets = go (first_of ts) refl

@@ -1,12 +1,14 @@
 // OUTWARD. The reading of a lent sheet: any bytes. `accept` judges the sheet whole and says what it holds, or gives the page's number. What it answers is
 // `accept_of` (specs); what an accepted sheet gives to a caller is `Given`. A sheet's rows are then read by Rattle.sheet_words.
+#![tactic(auto)]
+
 ghost use Rattle.std.specs.Prelude.{◌≡◌};
 ghost use Rattle.sheet.specs.Answer.{accept_of};
 
 use sheet_words::{HALF_EDGES_AT, HEAD_BYTES, SOURCE_AT, VERTICES_AT};
 
 // A sheet that is accepted: its n and h, and the vertex that its source stands for. "A refusal returns its number alone."
-#[derive(Drop)]
+#[derive(Clone, Copy)]
 pub enum Acceptance {
     Sheet { n: usize, h: usize, source: usize },
     Refused(u64),

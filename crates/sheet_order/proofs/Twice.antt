@@ -138,18 +138,18 @@ module _ (n : ℕ) (h : n ≤ most_vertices) where
       k : ℕ
       k = e.one * BASE + e.other
 
-      rest_of : ℕ
-      rest_of = with k (words_of es)
+      rest_of_lem : ℕ
+      rest_of_lem = with k (words_of es)
 
-      straight : e.one ≡ f.one → e.other ≡ f.other → 1 ≤ bit (eqb (f.one * BASE + f.other) k) + (bit (eqb (f.other * BASE + f.one) k) + rest_of)
+      straight : e.one ≡ f.one → e.other ≡ f.other → 1 ≤ bit (eqb (f.one * BASE + f.other) k) + (bit (eqb (f.other * BASE + f.one) k) + rest_of_lem)
       straight p r = rw (eq-eqb (f.one * BASE + f.other) k (omega (arith, p, r))) (omega arith)
 
-      crossed : e.one ≡ f.other → e.other ≡ f.one → 1 ≤ bit (eqb (f.one * BASE + f.other) k) + (bit (eqb (f.other * BASE + f.one) k) + rest_of)
+      crossed : e.one ≡ f.other → e.other ≡ f.one → 1 ≤ bit (eqb (f.one * BASE + f.other) k) + (bit (eqb (f.other * BASE + f.one) k) + rest_of_lem)
       crossed p r = rw (eq-eqb (f.other * BASE + f.one) k (omega (arith, p, r))) (omega arith)
 
       go : (b₁ : Bool) → eqb e.one f.one ≡ b₁ → (b₂ : Bool) → eqb e.other f.other ≡ b₂ → (b₃ : Bool) → eqb e.one f.other ≡ b₃ → (b₄ : Bool) → eqb e.other f.one ≡ b₄
-          → ((b₁ && b₂) || (b₃ && b₄) || any_edge (same_ends e) es) ≡ true → (any_edge (same_ends e) es ≡ true → 1 ≤ rest_of)
-          → 1 ≤ bit (eqb (f.one * BASE + f.other) k) + (bit (eqb (f.other * BASE + f.one) k) + rest_of)
+          → ((b₁ && b₂) || (b₃ && b₄) || any_edge (same_ends e) es) ≡ true → (any_edge (same_ends e) es ≡ true → 1 ≤ rest_of_lem)
+          → 1 ≤ bit (eqb (f.one * BASE + f.other) k) + (bit (eqb (f.other * BASE + f.one) k) + rest_of_lem)
       go true p₁ true p₂ b₃ p₃ b₄ p₄ r rest = straight (eqb-true e.one f.one p₁) (eqb-true e.other f.other p₂)
       go true p₁ false p₂ true p₃ true p₄ r rest = crossed (eqb-true e.one f.other p₃) (eqb-true e.other f.one p₄)
       go true p₁ false p₂ true p₃ false p₄ r rest = omega (arith, rest r)

@@ -1,5 +1,7 @@
 // A sheet written from its half-edges as words in order: the header, the row starts, and each word as its target and weight. The sheet that the
 // words make is `sheet_of`; that it is the sheet of edge records, where the words are theirs in order, is the law `sheet_written`.
+#![tactic(auto)]
+
 ghost use Rattle.std.specs.Prelude.{◌≡◌, [], ◌∷◌, ℕ, ◌+◌, ◌*◌, ◌%◌, ◌<◌, ◌≤◌, length, get_or};
 ghost use Rattle.std.proofs.lemmas.List.Edits.{sets};
 ghost use Rattle.sheet_format.specs.Numbers.{most_vertices, head_bytes, word_bytes, bytes_of};

@@ -112,9 +112,9 @@ module _ (n v : ℕ) (es : List Edge) (many : too_many n es ≡ false) where
   abbrev high : n ≤ most_vertices
   high = (count_right n (or_left (wrong_count n) _ many)).1
 
-  words_refusal : (room : ℕ) → words_refusal n v (judged_words n es) room ≡ write_refusal n v es room
+  words_refusal_lem : (room : ℕ) → words_refusal n v (judged_words n es) room ≡ write_refusal n v es room
   unfolding words_refusal write_refusal
-  words_refusal room = go (stray_ends n es) refl (too_heavy es) refl
+  words_refusal_lem room = go (stray_ends n es) refl (too_heavy es) refl
     where
       go : (a : Bool) → stray_ends n es ≡ a → (b : Bool) → too_heavy es ≡ b → words_refusal n v (judged_words n es) room ≡ write_refusal n v es room
       go true p b q = rw (many, stray_exactly n high es, p)
@@ -122,9 +122,9 @@ module _ (n v : ℕ) (es : List Edge) (many : too_many n es ≡ false) where
       go false p false q =
           rw (many, stray_exactly n high es, heavy_exactly n high es p, length_judged n es, judged_packed n high es p q, p, q, twice_exactly n high es p q)
 
-  words_later : (t : List ℕ) → words_later n v (judged_words n es) t ≡ later_target n v es t
+  words_later_lem : (t : List ℕ) → words_later n v (judged_words n es) t ≡ later_target n v es t
   unfolding words_later later_target
-  words_later t = rw (words_refusal (length t)) (go (eqb (write_refusal n v es (length t)) 0) refl)
+  words_later_lem t = rw (words_refusal_lem (length t)) (go (eqb (write_refusal n v es (length t)) 0) refl)
     where
       go : (b : Bool) → eqb (write_refusal n v es (length t)) 0 ≡ b
           → cond b (sets t 0 (bytes_of (sheet_of n v (sort (judged_words n es))))) t ≡ cond b (sets t 0 (written n v es)) t
@@ -137,4 +137,4 @@ module _ (n v : ℕ) (es : List Edge) (many : too_many n es ≡ false) where
   -- WHAT THE WORDS BRING AND LEAVE
   pub words_call : (t : List ℕ) (r : ℕ) (later : List ℕ) → Put n v (judged_words n es) t r later
       → (r ≡ write_refusal n v es (length t)) × (later ≡ later_target n v es t)
-  words_call t r later p = (p.number ∙ words_refusal (length t), p.target ∙ words_later t)
+  words_call t r later p = (p.number ∙ words_refusal_lem (length t), p.target ∙ words_later_lem t)

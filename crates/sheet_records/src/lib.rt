@@ -1,6 +1,8 @@
 // Edge records as judged words, and the sheet written from them, or the first refusal of 22, 23, 24, 13 and 25. A record is two words, one for each
 // of its rows; a record that 22 or 23 refuses is two marks instead, so that the words hold all that the refusals ask of the records.
 // What the words bring and leave is `Put`; that it is what the records bring and leave is the law `words_call`.
+#![tactic(auto)]
+
 ghost use Rattle.std.specs.Prelude.{[], ◌∷◌, ◌≡◌, ◌+◌, ◌*◌, ◌≤◌, min, length};
 ghost use Rattle.std.proofs.lemmas.List.Edits.{sets};
 ghost use Rattle.sheet_format.specs.Numbers.{most_vertices, most_half_edges};
@@ -18,7 +20,7 @@ const STRAY: u64 = 1 << 49;
 
 // The names of the code are those of the meanings.
 fn marks_agree()
-    ensures* { do ⌜ ((← (⟦HEAVY⟧).entry) ≡ heavy_mark) × ((← (⟦STRAY⟧).entry) ≡ stray_mark) ⌝ }
+    ensures { (HEAVY ≡ heavy_mark) × (STRAY ≡ stray_mark) }
 {}
 
 // The word of the half-edge from u to t of weight w, or its mark.

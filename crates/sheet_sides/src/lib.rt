@@ -1,5 +1,7 @@
 // Test 17 of a sheet, in one pass over all rows. The vertices u ascend, and each row has a cursor that only moves on: v's stands at the first target that
 // is not below u, so that v's row names u exactly where u stands there. All cursors together pass each half-edge once.
+#![tactic(auto)]
+
 ghost use Rattle.std.specs.Prelude.{◌≡◌, ◌<◌, ◌≤◌};
 ghost use Rattle.sheet_format.specs.Numbers.{word};
 ghost use Rattle.sheet_format.specs.Rows.{names};

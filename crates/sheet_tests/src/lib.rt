@@ -1,5 +1,7 @@
 // The tests 12 to 16 of a sheet, and 11 after 12: a function for each, over the whole sheet. Each says what the test of Rattle.sheet_format.specs.Sheet
 // says, and relies on no more than what the tests before it have left (Rattle.sheet_words.specs.Places).
+#![tactic(auto)]
+
 ghost use Rattle.std.specs.Prelude.{◌≡◌, ◌+◌, ◌*◌, ◌≤◌, length};
 ghost use Rattle.sheet_format.specs.Numbers.{head_bytes, word_bytes, word};
 ghost use Rattle.sheet_format.specs.Rows.{any};

@@ -1,5 +1,7 @@
 // A sheet's fixed numbers by name, its 32-bit numbers, what its counts and its source stand for, and where a vertex's row and its half-edges stand.
 // The meanings are Rattle.sheet_format.specs; every other crate of code that reads or writes a sheet cites these names.
+#![tactic(auto)]
+
 ghost use Rattle.std.specs.Prelude.{◌≡◌, ◌+◌, ◌*◌, ◌<◌, ◌≤◌, length};
 ghost use Rattle.sheet_format.specs.Numbers.{most_vertices, most_half_edges, most_records, most_weight, no_choice, head_bytes, word_bytes, half_bytes, word_limit, word};
 ghost use Rattle.sheet_format.specs.Sheet.{vertices, half_edges, source, start, rows_at, sheet_length, wrong_count, wrong_source, chosen_source};
@@ -132,7 +134,7 @@ pub fn chosen_source(n: usize, v: usize) -> usize
 // ---- rows
 
 // Where a row stands: `count` half-edges from the number `first` on.
-#[derive(Drop)]
+#[derive(Clone, Copy)]
 pub struct Place {
     pub first: usize,
     pub count: usize,

@@ -1,6 +1,8 @@
 // OUTWARD. The writer of sheets: n, a source and a lent list of edge records, in any order, and the target that takes the sheet. Any slices, any
 // numbers. What each call answers and leaves is Rattle.runs.specs.Write `write_call`. The records become words in a local array, in one of three
 // sizes; sorting them takes m log m steps for m records.
+#![tactic(auto)]
+
 ghost use Rattle.std.specs.Prelude.{◌||◌, [], ◌∷◌, ◌≡◌, ◌+◌, ◌*◌, ◌<◌, ◌≤◌, leb, ltb, length, get_or, take};
 ghost use Rattle.std.proofs.lemmas.List.Edits.{sets};
 ghost use Rattle.sheet_format.specs.Numbers.{most_vertices, most_records};
@@ -20,7 +22,7 @@ const LARGE: usize = 524288;
 
 // "edge records (two ends, one weight)"; laid out as C does, since the C face takes a slice of them
 #[repr(C)]
-#[derive(Drop)]
+#[derive(Clone, Copy)]
 pub struct Edge {
     pub one: u64,
     pub other: u64,
@@ -28,7 +30,7 @@ pub struct Edge {
 }
 
 // "returns the length"; "A refusal returns its number alone."
-#[derive(Drop)]
+#[derive(Clone, Copy)]
 pub enum Written {
     Wrote(u64),
     Refused(u64),

@@ -1,5 +1,7 @@
 // The test that every outward call makes of its image: too short (refusal 2), not sound (refusal 3), or good. The verdict is
 // Rattle.layout.specs.SoundImage `Judged`.
+#![tactic(auto)]
+
 ghost use Rattle.std.specs.Prelude.{◌+◌, ◌*◌, ◌<◌, ◌≤◌, length};
 ghost use Rattle.rules.specs.Pair.{IDS};
 ghost use Rattle.layout.specs.Image.{work_from};
@@ -101,7 +103,7 @@ pub fn contents_ok(img: &[u64], n: u64, levels: usize, size: usize) -> bool
     levels_in_order(img, n, levels, size)
 }
 
-#[derive(Drop)]
+#[derive(Clone, Copy)]
 pub enum Verdict {
     TooShort,
     NotSound,

@@ -1,4 +1,6 @@
 // Words of an image moved while Delete-Min works: a level's elements into the work area, and a part split by a bound.
+#![tactic(auto)]
+
 ghost use Rattle.std.specs.Prelude.{◌≡◌, ◌+◌, ◌*◌, ◌<◌, ◌≤◌, length, replicate};
 ghost use Rattle.std.proofs.lemmas.List.Edits.{sets};
 ghost use Rattle.plain.specs.Lists.{Every};

@@ -1,37 +1,49 @@
 // Standard input and output: the one crate that reads and writes. No contract can say which bytes the system gave or took, so what is said here is how many.
+#![tactic(auto)]
+
 ghost use Rattle.std.specs.Prelude.{◌+◌, ◌<◌, ◌^◌, ◌≡◌, true, ◌&&◌, length};
 ghost use Rattle.io.specs.Counts.{IsPrefixLen};
 
-use libc::{STDIN_FILENO, STDOUT_FILENO};
+use std::io::{Read, Write};
 
 // The receipt for a text that was handed to standard output: how many bytes it has, and whether all were taken. Its fields are this crate's alone, so that a program
 // has a receipt only for what it printed.
-#[derive(Drop)]
+#[derive(Clone, Copy)]
 pub struct Printed {
     bytes: usize,
     whole: bool,
 }
 
-// Reads once: how many bytes came to the start of the chunk, and none at the end of the input.
-pub fn read_some(chunk: &mut [u8]) -> usize
+// Reads once: how many bytes came to the start of the chunk, and none at the end of the input or where the read failed.
+pub fn read_some<R: Read>(input: &mut R, chunk: &mut [u8]) -> usize
     ensures { IsPrefixLen result chunk.new }
 {
-    let got = libc::read(STDIN_FILENO, chunk);
-    io::count(got, chunk)
+    match input.read(chunk) {
+        Ok(n) => n,
+        Err(_) => 0,
+    }
 }
 
 // Reads until the buffer is full or the input ends.
-pub fn read_all(buffer: &mut [u8]) -> usize
+pub fn read_all<R: Read>(input: &mut R, buffer: &mut [u8]) -> usize
     ensures { IsPrefixLen result buffer.new }
 {
-    io::read_full(STDIN_FILENO, buffer)
+    let mut done = 0;
+    while done < buffer.len() {
+        let n = read_some(input, &mut buffer[done..]);
+        if n == 0 {
+            break;
+        }
+        done += n;
+    }
+    done
 }
 
 // Hands a text to standard output.
-pub fn print(text: &[u8]) -> Printed
+pub fn print<W: Write>(output: &mut W, text: &[u8]) -> Printed
     ensures { result.bytes ≡ length text.now }
 {
-    let whole = io::write_all(STDOUT_FILENO, text);
+    let whole = output.write_all(text).is_ok();
     Printed {
         bytes: text.len(),
         whole: whole,

@@ -1,5 +1,7 @@
 // The clauses of a sound image on single words and on stretches of words: zeros, element words, update words, and how many wait.
 // The meanings are Rattle.image_clauses.specs.Clauses.
+#![tactic(auto)]
+
 ghost use Rattle.std.specs.Prelude.{◌≡◌, [], ◌∷◌, ◌+◌, ◌≤◌, length};
 ghost use Rattle.plain.specs.Lists.{tally};
 ghost use Rattle.lists.specs.Put.{part};

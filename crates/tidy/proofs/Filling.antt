@@ -65,11 +65,11 @@ module _ (S : List ℕ) where
       none (suc i) = stack-append (up_to i) (level_of i ∷ []) ∙ none i
 
   module _ (E : List ℕ) (asc : Asc 0 E) (sorted : S ≡ sort E) where
-    by_id : (i : ℕ) → sort_id (here_at i) ≡ by_id (here_at i)
-    by_id i = rw sorted (sort_id-part 0 E (2 ^ i - 1) (2 ^ i) asc)
+    by_id_lem : (i : ℕ) → sort_id (here_at i) ≡ by_id (here_at i)
+    by_id_lem i = rw sorted (sort_id-part 0 E (2 ^ i - 1) (2 ^ i) asc)
 
     length_by_id : (i : ℕ) → length (by_id (here_at i)) ≡ length (here_at i)
-    length_by_id i = ap length (sym (by_id i)) ∙ sort_id-length (here_at i)
+    length_by_id i = ap length (sym (by_id_lem i)) ∙ sort_id-length (here_at i)
 
     fits : (i : ℕ) → length (by_id (here_at i)) ≤ 2 ^ i
     fits i = omega (arith, length_by_id i, length-take (2 ^ i) (left_at i))
@@ -160,7 +160,7 @@ module _ {xs ys : List ℕ} {depth first m i width left : ℕ} (d : Dealable xs 
       t.words
       ∙ ap (λ (l : List ℕ). sets (sets ys (first + (width - 1)) (pad width (sort_id (take width l)))) (HEAD + ROW * i) (row_of width l)) left_words
       ∙ ap (λ (w : ℕ). sets (sets ys (first + (w - 1)) (pad w (sort_id (take w T)))) (HEAD + ROW * i) (row_of w T)) k.wide
-      ∙ ap (λ (l : List ℕ). sets (sets ys (first + (2 ^ i - 1)) (pad (2 ^ i) l)) (HEAD + ROW * i) row) (by_id S E asc order i)
+      ∙ ap (λ (l : List ℕ). sets (sets ys (first + (2 ^ i - 1)) (pad (2 ^ i) l)) (HEAD + ROW * i) row) (by_id_lem S E asc order i)
       ∙ ap (λ (z : List ℕ). sets (sets z (first + (2 ^ i - 1)) P) (HEAD + ROW * i) row) k.words
       ∙ ap (λ (j : ℕ). sets (sets (levels_stored xs first (up_to S i)) j P) (HEAD + ROW * i) row) a
       ∙ ap (λ (j : ℕ). sets (sets (levels_stored xs first (up_to S i)) (first + length A) P) j row) b

@@ -2,6 +2,8 @@
 // The reading, oldest to newest, goes into the work area, one word for each id; the pairs that are then held go to the front of the elements and
 // are sorted there. As level i starts 2^i - 1 words in and is filled before level i + 1, each level's pairs then stand in its place, and only
 // their order by id and the rows are left to make. n log n steps, no array, no word outside the image.
+#![tactic(auto)]
+
 ghost use Rattle.std.specs.Prelude.{◌≡◌};
 ghost use Rattle.std.proofs.lemmas.List.Edits.{sets};
 ghost use Rattle.lists.specs.Put.{part};

@@ -1,5 +1,7 @@
 // Parts of tidy: entries read into the work area, the pairs that it then holds, a part of an image sorted, one level dealt.
 // What each leaves is an equation on the whole slice.
+#![tactic(auto)]
+
 ghost use Rattle.std.specs.Prelude.{◌≡◌, ◌+◌, ◌%◌, ◌<◌, ◌≤◌, min, length, take, drop};
 ghost use Rattle.std.proofs.lemmas.List.Edits.{sets};
 ghost use Rattle.plain.specs.Lists.{Every, sort};

@@ -1,4 +1,6 @@
 // The lines of the vertices with their distances, written into lent bytes. What is written is specs/Rows.
+#![tactic(auto)]
+
 ghost use Rattle.std.specs.Prelude.{◌+◌, ◌*◌, ◌≤◌, length};
 ghost use Rattle.text.specs.Stored.{Stored};
 ghost use Rattle.answers.specs.Answers.{longest_text};

@@ -20,7 +20,7 @@ use Rattle.walks.specs.Settling.{offered, offer, relax, settle, turn, go_on, set
 use Rattle.walks.specs.HeapRun.{offer_heap, relax_heap, Ran, ran_on, run_heap, heap_run}
 use Rattle.walks.proofs.Fair.{Fair}
 use Rattle.rules.proofs.Soundness.{sound_firm, fresh_heap}
-use Rattle.walks.proofs.Keys.{reached_few, Going, going_least, begun_going, one_more, offers_valid, turn_going}
+use Rattle.walks.proofs.Keys.{reached_few, Going, going_least, begun_going, one_more_lem, offers_valid, turn_going}
 use Rattle.walks.proofs.Order.{whole_done}
 
 -- ---- the heap follows the map
@@ -91,7 +91,7 @@ module _ (n : ℕ) (rows : ℕ → List Half) (source : ℕ) (fair : Fair n rows
           let i = k (relax_heap n (settle p D) (key_of p) (rows (id_of p)) after) (settle p D) (turn rows p D m)
           (follow_relax n fair.low (settle p D) (key_of p) (rows (id_of p)) after (plain_take (held p) m)
           (λ v w h. (offers_valid n rows source fair D m g p l v w h).0) (rw e at (follow_take n fair.low ls m f)))
-          (turn_going n rows source fair D m g p l) (omega (arith, one_more n rows source fair D m g p l)) in
+          (turn_going n rows source fair D m g p l) (omega (arith, one_more_lem n rows source fair D m g p l)) in
           rw e (record { order = ap (λ (order : List ℕ). p ∷ order) i.order; heap = i.heap })
 
   pub begun_follows : Follows n fair.low (updated n (decrease (pair_of 0 source)) (fresh (levels n))) (begun source)
@@ -99,9 +99,9 @@ module _ (n : ℕ) (rows : ℕ → List Half) (source : ℕ) (fair : Fair n rows
       follow_push n fair.low (pair_of 0 source) (fresh (levels n)) (λ x. absent) (omega (arith, fair.starts, fair.high), omega (arith, fair.starts, fair.high))
       (follow_fresh n fair.low fair.high)
 
-  pub heap_run : Leaves (settled n rows source) (heap_run n rows source)
+  pub heap_run_lem : Leaves (settled n rows source) (heap_run n rows source)
   unfolding heap_run
-  heap_run =
+  heap_run_lem =
       rw (← whole_done n rows source fair (suc n) (omega arith))
       (run_follows (suc n) (updated n (decrease (pair_of 0 source)) (fresh (levels n))) (λ x. absent) (begun source) begun_follows (begun_going n rows source fair)
       (omega arith))

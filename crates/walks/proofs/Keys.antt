@@ -107,8 +107,8 @@ module _ (n : ℕ) (rows : ℕ → List Half) (source : ℕ) (fair : Fair n rows
     pub least_valid : (id_of p < n) × (key_of p < KEYS)
     least_valid = (low.0, (low_valid (reached_of n D) p (reached_few n D) low).1)
 
-    pub one_more : reached_of n (settle p D) ≡ reached_of n D + 1
-    one_more = reached_settle n p D low.0 least_new
+    pub one_more_lem : reached_of n (settle p D) ≡ reached_of n D + 1
+    one_more_lem = reached_settle n p D low.0 least_new
 
     abbrev Later : ℕ → Type 0
     Later = Low (reached_of n (settle p D))
@@ -116,7 +116,7 @@ module _ (n : ℕ) (rows : ℕ → List Half) (source : ℕ) (fair : Fair n rows
     pub offers_low : (v w : ℕ) → Has (rows (id_of p)) v w → Later (pair_of (key_of p + w) v)
     offers_low v w h =
         let t = fair.targets (id_of p) v w h in
-        (omega (arith, t, fair.high), omega (arith, t, fair.high, low.1, one_more, fair.weights (id_of p) v w h))
+        (omega (arith, t, fair.high), omega (arith, t, fair.high, low.1, one_more_lem, fair.weights (id_of p) v w h))
 
     pub offers_valid : (v w : ℕ) → Has (rows (id_of p)) v w → Valid n (pair_of (key_of p + w) v) × (key_of (pair_of (key_of p + w) v) < KEYS)
     offers_valid v w h = low_valid (reached_of n (settle p D)) (pair_of (key_of p + w) v) (reached_few n (settle p D)) (offers_low v w h)
@@ -125,5 +125,5 @@ module _ (n : ℕ) (rows : ℕ → List Half) (source : ℕ) (fair : Fair n rows
     turn_going = record {
       inv = turned rows source small D m g.inv p l;
       waiting = relax_at Later (settle p D) (key_of p) (rows (id_of p)) (plain_take (held p) m) offers_low
-          (λ x. struck_at Later p (m x) (at_weaken (Low (reached_of n D)) Later (m x) (λ q h. (h.0, omega (arith, h.1, one_more))) (g.waiting x)));
+          (λ x. struck_at Later p (m x) (at_weaken (Low (reached_of n D)) Later (m x) (λ q h. (h.0, omega (arith, h.1, one_more_lem))) (g.waiting x)));
     }

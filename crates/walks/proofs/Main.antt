@@ -18,13 +18,13 @@ use Rattle.rules.specs.Queue.{fresh}
 use Rattle.walks.specs.Rows.{Half}
 use Rattle.walks.specs.Walks.{Walk, Table, UNREACHED, distance_word, distance_words, reached_of}
 use Rattle.walks.specs.Settling.{relax, settling, begun, settled, distance_in, row_pushes, pushes}
-use Rattle.walks.specs.HeapRun.{relax_heap, heap_run}
+use Rattle.walks.specs.HeapRun.{relax_heap, heap_run_lem}
 use Rattle.walks.proofs.Fair.{Fair}
 use Rattle.walks.proofs.Walks.{one_table, no_walk, same_words, same_reached, words-length, words_at}
 use Rattle.walks.proofs.Order.{NoTwice, whole, whole_done, whole_first, whole_reached, whole_few, whole_pushes}
 use Rattle.walks.proofs.Marks.{below, marked}
 use Rattle.walks.proofs.Pushes.{lowered, lowered_heap, row-lowered, row-lowered_heap}
-use Rattle.walks.proofs.HeapRun.{heap_run}
+use Rattle.walks.proofs.HeapRun.{heap_run_lem}
 
 -- ---- THE TABLE
 
@@ -58,8 +58,8 @@ row_pushes_heap = row-lowered_heap
 -- ---- THE RUN
 
 module _ (n : ℕ) (rows : ℕ → List Half) (source : ℕ) (fair : Fair n rows source) where
-  pub settled_table : Table rows source (distance_in (settled n rows source))
-  settled_table = (whole n rows source fair).table
+  pub settled_table_lem : Table rows source (distance_in (settled n rows source))
+  settled_table_lem = (whole n rows source fair).table
 
   pub settled_few : length (settled n rows source) ≤ n
   settled_few = whole_few n rows source fair
@@ -84,7 +84,7 @@ module _ (n : ℕ) (rows : ℕ → List Half) (source : ℕ) (fair : Fair n rows
   reached_settled = whole_reached n rows source fair
 
   pub heap_run_law : ((heap_run n rows source).order ≡ settled n rows source) × ((heap_run n rows source).heap ≡ fresh (levels n))
-  heap_run_law = ((heap_run n rows source fair).order, (heap_run n rows source fair).heap)
+  heap_run_law = ((heap_run_lem n rows source fair).order, (heap_run_lem n rows source fair).heap)
 
   pub distance_below : (D : ℕ → Held) → Table rows source D → (x d : ℕ) → D x ≡ held d → d < UNREACHED
   distance_below = below n rows source fair

@@ -26,7 +26,7 @@ use Rattle.walks.proofs.Fair.{Fair}
 use Rattle.walks.proofs.Walks.{same_table, same_reached}
 use Rattle.walks.proofs.Pushes.{row_pushes_lem}
 use Rattle.walks.proofs.Run.{ended}
-use Rattle.walks.proofs.Keys.{reached_few, reached_none, Going, going_least, begun_going, least_new, least_valid, one_more, offers_valid, turn_going}
+use Rattle.walks.proofs.Keys.{reached_few, reached_none, Going, going_least, begun_going, least_new, least_valid, one_more_lem, offers_valid, turn_going}
 
 abbrev pub NoTwice : List ℕ → Type 0
 NoTwice [] = Unit {0}
@@ -104,7 +104,7 @@ module _ (n : ℕ) (rows : ℕ → List Half) (source : ℕ) (fair : Fair n rows
     rest_more : Rest D (p ∷ order)
     rest_more = record {
       table = same_table rows source (Then (settle p D) order) (Then D (p ∷ order)) same_then r.table;
-      reached = same_reached n (Then D (p ∷ order)) (Then (settle p D) order) same_then ∙ omega (arith, r.reached, one_more n rows source fair D m g p l);
+      reached = same_reached n (Then D (p ∷ order)) (Then (settle p D) order) same_then ∙ omega (arith, r.reached, one_more_lem n rows source fair D m g p l);
       apart = apart_then;
       once = (found_no_more, r.once);
       ids = ((least_valid n rows source fair D m g p l).0, r.ids);
@@ -122,7 +122,7 @@ module _ (n : ℕ) (rows : ℕ → List Half) (source : ℕ) (fair : Fair n rows
     where
       go : (a : Held) → IsLeast m a → a ≡ absent
       go absent l = refl
-      go (held p) l = absurd (omega (arith, one_more n rows source fair D m g p l, reached_few n (settle p D)))
+      go (held p) l = absurd (omega (arith, one_more_lem n rows source fair D m g p l, reached_few n (settle p D)))
 
   pub rest : (turns : ℕ) (D m : ℕ → Held) → G D m → n ≤ turns + reached_of n D → Rest D (settling n rows turns D m)
   rest zero D m g h = rest_none D m g (rw (full D m g (omega arith)) at (going_least n rows source fair D m g))
@@ -133,7 +133,7 @@ module _ (n : ℕ) (rows : ℕ → List Half) (source : ℕ) (fair : Fair n rows
       go absent l k = rest_none D m g l
       go (held p) l k =
           rest_more D m g p l (settling n rows turns (settle p D) (turn rows p D m))
-          (k (settle p D) (turn rows p D m) (turn_going n rows source fair D m g p l) (omega (arith, one_more n rows source fair D m g p l)))
+          (k (settle p D) (turn rows p D m) (turn_going n rows source fair D m g p l) (omega (arith, one_more_lem n rows source fair D m g p l)))
 
   -- more turns settle no more
   pub enough : (s t : ℕ) (D m : ℕ → Held) → G D m → n ≤ s + reached_of n D → n ≤ t + reached_of n D → settling n rows s D m ≡ settling n rows t D m
@@ -147,7 +147,7 @@ module _ (n : ℕ) (rows : ℕ → List Half) (source : ℕ) (fair : Fair n rows
           → go_on a (λ p. settling n rows s (settle p D) (turn rows p D m)) ≡ go_on a (λ p. settling n rows t (settle p D) (turn rows p D m))
       go absent l i = refl
       go (held p) l i =
-          let o = one_more n rows source fair D m g p l in
+          let o = one_more_lem n rows source fair D m g p l in
           ap (λ (order : List ℕ). p ∷ order)
           (i (settle p D) (turn rows p D m) (turn_going n rows source fair D m g p l) (omega (arith, o)) (omega (arith, o)))
 

@@ -59,7 +59,7 @@ loop-again c =
     let l = c.before.before.loop in
     let a = c.before.before.before.before.before.args in
     let w : l.width * 2 ≡ 2 ^ (l.j + 1) = rw (add-one l.j) (omega (arith, l.invariant.2, pow-suc 2 l.j)) in
-    (omega arith, simp length-set l.invariant.1, w, rw (c.cut_at.ensures, w) (ladder_turn a.b (part a.img.now a.at a.m) l.p l.j (omega (arith, l.invariant.1)) l.invariant.3))
+    (omega arith, simp length-set l.invariant.1, w, rw (c.cut_at_lem.ensures, w) (ladder_turn a.b (part a.img.now a.at a.m) l.p l.j (omega (arith, l.invariant.1)) l.invariant.3))
 
 returns : tie.Need-returns invariant-loop decreases-loop
 returns c =

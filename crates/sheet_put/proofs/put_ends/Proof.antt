@@ -46,7 +46,7 @@ loop-again c =
       search rules,
       search rules,
       r.ensures.within,
-      r.ensures.up_to,
+      r.ensures.up_to_lem,
       c.before.before.put_word.ensures ∙ rw l.invariant.4 (ends_turn a.t.now a.words.now l.u r.result c.before.before.before.before.before.before.before.before.before.requires.1 r.ensures),
     )
 

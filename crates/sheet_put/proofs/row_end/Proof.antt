@@ -27,7 +27,7 @@ shared-slice-read-x c = search rules
 returns : tie.Need-returns invariant-loop decreases-loop
 returns c =
     let l = c.before.before.before.loop in
-    record { within = omega arith; up_to = l.invariant.1; later = λ h. omega arith }
+    record { within = omega arith; up_to_lem = l.invariant.1; later = λ h. omega arith }
 
 add_r : tie.Need-overflow-add-r invariant-loop decreases-loop
 add_r c = search rules
@@ -43,7 +43,7 @@ loop-again c =
 returns-2 : tie.Need-returns-2 invariant-loop decreases-loop
 returns-2 c =
     let l = c.before.loop in
-    record { within = omega arith; up_to = l.invariant.1; later = λ h. absurd (omega arith) }
+    record { within = omega arith; up_to_lem = l.invariant.1; later = λ h. absurd (omega arith) }
 
 pub row-end-spec : {M : Type 1} → statement M
 row-end-spec =

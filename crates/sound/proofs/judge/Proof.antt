@@ -6,7 +6,7 @@ use native.Mathlib.Omega.{arith}
 use borrow.Author.Rules.{rules}
 use borrow.Author.Tests.{not-true, not-false}
 use Rattle.image_clauses.specs.Turns.{says_yes, says_no}
-use Rattle.image_clauses.proofs.Verdict.{none, out_of_range, short, refused, passed}
+use Rattle.image_clauses.proofs.Verdict.{none, out_of_range_lem, short, refused, passed}
 use Rattle.sound.proofs.judge.Statement.{statement}
 use Rattle.sound.proofs.judge.Tie as tie
 
@@ -17,10 +17,10 @@ shared-slice-read-n : tie.Need-shared-slice-read-n
 shared-slice-read-n c = search rules
 
 returns-2 : tie.Need-returns-2
-returns-2 c = out_of_range c.before.before.before.before.args.img.now (omega arith) (λ h. omega arith)
+returns-2 c = out_of_range_lem c.before.before.before.before.args.img.now (omega arith) (λ h. omega arith)
 
 returns-3 : tie.Need-returns-3
-returns-3 c = out_of_range c.before.before.before.before.before.args.img.now (omega arith) (λ h. omega arith)
+returns-3 c = out_of_range_lem c.before.before.before.before.before.args.img.now (omega arith) (λ h. omega arith)
 
 depth-of-requires : tie.Need-depth-of-requires
 depth-of-requires c κs = search rules

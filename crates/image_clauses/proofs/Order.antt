@@ -101,11 +101,11 @@ id_unword w = pick (w / OPEN) refl
 module _ (n : ℕ) where
   stores_below : (f b x : ℕ) (ps : List ℕ) → Pairs n f b x ps → Every (Below n) (stores ps)
   stores_below f b x [] h = tt
-  stores_below f b x (p ∷ ps) h = (h.0.id-Below, stores_below f b (suc (id_of p)) ps h.2)
+  stores_below f b x (p ∷ ps) h = (h.0.id_below, stores_below f b (suc (id_of p)) ps h.2)
 
   unwords_below : (f t : ℕ) (us : List ℕ) → Every (UpdateOk n f t) us → Every (Below n) (unwords us)
   unwords_below f t [] h = tt
-  unwords_below f t (w ∷ us) h = (omega (arith, id_unword w, h.0.id-Below), unwords_below f t us h.1)
+  unwords_below f t (w ∷ us) h = (omega (arith, id_unword w, h.0.id_below), unwords_below f t us h.1)
 
   levels_below : (ws : List ℕ) (L d i : ℕ) → LevelsOk ws n L i d → Every (Below n) (reading (levels_of ws L i d))
   levels_below ws L zero i h = tt

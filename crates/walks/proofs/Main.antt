@@ -18,7 +18,7 @@ use Rattle.rules.specs.Queue.{fresh}
 use Rattle.walks.specs.Rows.{Half}
 use Rattle.walks.specs.Walks.{Walk, Table, UNREACHED, distance_word, distance_words, reached_of}
 use Rattle.walks.specs.Settling.{relax, settling, begun, settled, distance_in, row_pushes, pushes}
-use Rattle.walks.specs.HeapRun.{relax_heap, heap_run_lem}
+use Rattle.walks.specs.HeapRun.{relax_heap, heap_run}
 use Rattle.walks.proofs.Fair.{Fair}
 use Rattle.walks.proofs.Walks.{one_table, no_walk, same_words, same_reached, words-length, words_at}
 use Rattle.walks.proofs.Order.{NoTwice, whole, whole_done, whole_first, whole_reached, whole_few, whole_pushes}

@@ -1,0 +1,45 @@
+use mathlib.Core.Logic.{⊎_elim}
+use Rattle.split.proofs.Turns.{split_small, split_starts, split_goes, split_stays, split_ends}
+use Prim.Native.Nat.{◌-◌}
+use native.Mathlib.Omega.{arith}
+use borrow.Author.Rules.{rules}
+use lib.ListN.{length-set}
+use Rattle.split.proofs.split.Goals as goal
+
+pub loop-j-init : goal.loop-j-init
+loop-j-init c =
+    let a = c.args in
+    (search rules, search rules, search rules, split_starts a.img.now a.area a.to a.tag a.v)
+
+pub overflow_add-img : goal.overflow_add-img
+overflow_add-img c =
+    let l = c.loop-j in
+    let s = c in
+    let a = s.args in
+    omega (arith, split_small a.img.now a.area a.to a.tag a.v l.j l.img l.k l.invariant.3 (omega arith) (omega arith) a.m (omega arith) (omega arith) s.requires.3)
+
+pub loop-j-preserved : goal.loop-j-preserved
+loop-j-preserved c =
+    let l = c.loop-j in
+    let s = c in
+    let a = s.args in
+    ⊎_elim
+    (λ w. (
+      omega arith,
+      omega (arith, w.2),
+      rw w.1 (simp length-set l.invariant.2),
+      rw (w.1, w.2) (split_goes a.img.now a.area a.to a.tag a.v l.j l.img l.k l.invariant.3 (omega arith) (omega arith) w.0.taken),
+    ))
+    (λ w. (
+      omega arith,
+      omega (arith, w.2),
+      rw w.1 (simp length-set l.invariant.2),
+      rw (w.1, w.2) (split_stays a.img.now a.area a.to a.tag a.v l.j l.img l.k l.invariant.3 (omega arith) (omega arith) w.0.left),
+    ))
+    c.if-v-p.branch
+
+pub returns : goal.returns
+returns c =
+    let l = c.loop-j in
+    let a = c.args in
+    rw c.clear.ensures (split_ends a.img.now a.area a.to a.tag a.v l.j a.m l.img l.k l.invariant.3 (omega arith))

@@ -28,9 +28,6 @@ bounds-img-5 c = simp length-set (omega (arith, pow_pos (levels c.args.n)))
 pub open_bounds-requires : goal.open_bounds-requires
 open_bounds-requires c = simp length-set (omega (arith, pow_pos (levels c.args.n), c.depth_of-d.ensures.0))
 
-pub shape_of-img : goal.shape_of-img
-shape_of-img c = omega (arith, simp length-set at c.open_bounds.auto)
-
 pub returns : goal.returns
 returns c =
     let a = c.args in

@@ -1,10 +1,10 @@
-use mathlib.Core.Logic.{⊎_elim}
 use Rattle.split.proofs.Turns.{split_small, split_starts, split_goes, split_stays, split_ends}
 use Prim.Native.Nat.{◌-◌}
 use native.Mathlib.Omega.{arith}
 use borrow.Author.Rules.{rules}
 use lib.ListN.{length-set}
 use Rattle.split.proofs.split.Goals as goal
+use Rattle.split.proofs.split.Goals.{then-v-p, else-v-p}
 
 pub loop-j-init : goal.loop-j-init
 loop-j-init c =
@@ -23,20 +23,17 @@ loop-j-preserved c =
     let l = c.loop-j in
     let s = c in
     let a = s.args in
-    ⊎_elim
-    (λ w. (
+    elim c.if-v-p.branch [ then-v-p w ↦ (
       omega arith,
-      omega (arith, w.2),
-      rw w.1 (simp length-set l.invariant.2),
-      rw (w.1, w.2) (split_goes a.img.now a.area a.to a.tag a.v l.j l.img l.k l.invariant.3 (omega arith) (omega arith) w.0.taken),
-    ))
-    (λ w. (
       omega arith,
-      omega (arith, w.2),
-      rw w.1 (simp length-set l.invariant.2),
-      rw (w.1, w.2) (split_stays a.img.now a.area a.to a.tag a.v l.j l.img l.k l.invariant.3 (omega arith) (omega arith) w.0.left),
-    ))
-    c.if-v-p.branch
+      rw w.img-is (simp length-set l.invariant.2),
+      rw (w.img-is, w.k-is) (split_goes a.img.now a.area a.to a.tag a.v l.j l.img l.k l.invariant.3 (omega arith) (omega arith) w.if-v-p.true),
+    ) | else-v-p w ↦ (
+      omega arith,
+      omega arith,
+      rw w.img-is (simp length-set l.invariant.2),
+      rw (w.img-is, w.k-is) (split_stays a.img.now a.area a.to a.tag a.v l.j l.img l.k l.invariant.3 (omega arith) (omega arith) w.if-v-p.false),
+    ) ]
 
 pub returns : goal.returns
 returns c =

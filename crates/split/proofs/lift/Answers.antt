@@ -1,6 +1,5 @@
 use lib.ListN.{length-set}
 use Rattle.split.proofs.Turns.{lift_turn}
-use Prim.Native.Nat.{◌-◌}
 use mathlib.Core.Path.{◌≡◌}
 use native.Mathlib.Omega.{arith}
 use borrow.Author.Rules.{rules}

@@ -1,5 +1,4 @@
 use Rattle.split.proofs.Turns.{split_small, split_starts, split_goes, split_stays, split_ends}
-use Prim.Native.Nat.{◌-◌}
 use native.Mathlib.Omega.{arith}
 use borrow.Author.Rules.{rules}
 use lib.ListN.{length-set}

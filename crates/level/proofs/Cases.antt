@@ -105,6 +105,10 @@ pub record Looked (xs : List ℕ) (area m to p y k q : ℕ) : Type 0 where
   pub at : k ≡ place y (part xs area m)
   pub is : q ≡ pair_or_open (find y (part xs area m))
 
+pub looked : {xs : List ℕ} {area m to p y k q : ℕ} → Ready xs area m to p → y ≡ id_of p → k ≡ place y (part xs area m) → q ≡ pair_or_open (find y (part xs area m))
+    → Looked xs area m to p y k q
+looked r o a i = record { ready = r; own = o; at = a; is = i }
+
 module _ {xs : List ℕ} {area m to p y k q : ℕ} (l : Looked xs area m to p y k q) where
   abbrev E : List ℕ
   E = part xs area m

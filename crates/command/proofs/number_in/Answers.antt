@@ -1,5 +1,4 @@
 -- Assumes nothing.
-use borrow.Author.Tests.{not-true, not-false}
 use Rattle.command.specs.Commands.{is_digit}
 use Rattle.command.proofs.Reading.{number_none, number_long, number_read, read_stop, read_turn, read_end, value_turn, value_small, digit_range}
 use Prim.Native.Nat.{◌+◌, ◌-◌}
@@ -29,7 +28,7 @@ pub returns-then-not-is_digit : goal.returns-then-not-is_digit
 returns-then-not-is_digit c =
     let a = c.args in
     let l = c.loop-i in
-    sym (l.invariant.3 ∙ read_stop a.line.now l.i a.to l.value (omega arith) (omega arith) (sym c.is_digit.ensures ∙ not-true c.is_digit.result c.if-not-is_digit.true))
+    sym (l.invariant.3 ∙ read_stop a.line.now l.i a.to l.value (omega arith) (omega arith) (sym c.is_digit.ensures ∙ c.if-not-is_digit.true))
 
 pub overflow_mul-value : goal.overflow_mul-value
 overflow_mul-value c =
@@ -41,7 +40,7 @@ pub digit-requires : goal.digit-requires
 digit-requires c =
     let a = c.args in
     let l = c.loop-i in
-    let d : is_digit (get_or a.line.now l.i 0) ≡ true = sym c.is_digit.ensures ∙ not-false c.is_digit.result c.if-not-is_digit.false in
+    let d : is_digit (get_or a.line.now l.i 0) ≡ true = sym c.is_digit.ensures ∙ c.if-not-is_digit.false in
     digit_range (get_or a.line.now l.i 0) d
 
 pub overflow_add-value : goal.overflow_add-value
@@ -54,7 +53,7 @@ pub loop-i-preserved : goal.loop-i-preserved
 loop-i-preserved c =
     let a = c.args in
     let l = c.loop-i in
-    let d : is_digit (get_or a.line.now l.i 0) ≡ true = sym c.is_digit.ensures ∙ not-false c.is_digit.result c.if-not-is_digit.false in
+    let d : is_digit (get_or a.line.now l.i 0) ≡ true = sym c.is_digit.ensures ∙ c.if-not-is_digit.false in
     let k : l.i + 1 - a.from ≡ l.i - a.from + 1 = omega arith in
     (omega arith, omega arith, rw k (value_turn l.value (l.i - a.from) c.digit.result l.invariant.2 c.digit.ensures.1), rw c.digit.ensures.0 (l.invariant.3 ∙ read_turn a.line.now l.i a.to l.value (omega arith) (omega arith) d))
 

@@ -2,7 +2,7 @@
 use Prim.Native.Nat.{suc}
 use Rattle.text.specs.Cuts.{space, up_to}
 use Rattle.text.proofs.Cuts.{up_to_here, up_to_turn, up_to_end}
-use Prim.Native.Nat.{◌+◌, ◌-◌}
+use Prim.Native.Nat.{◌+◌}
 use mathlib.Core.Path.{◌≡◌, refl}
 use native.Mathlib.Omega.{arith}
 use borrow.Author.Rules.{rules}

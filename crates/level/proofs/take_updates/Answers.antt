@@ -1,5 +1,4 @@
 -- Assumes nothing.
-use Prim.Native.Nat.{◌-◌}
 use native.Mathlib.Omega.{arith}
 use borrow.Author.Rules.{rules}
 use Rattle.level.proofs.Turn.{going_starts, going_ready, going_on, going_ends}
@@ -10,33 +9,20 @@ loop-j-init c = (search rules, search rules, going_starts c.requires c.args.boun
 
 pub take_one-took-requires : goal.take_one-took-requires
 take_one-took-requires c =
-    let l = c in
-    let s = l in
-    going_ready s.requires s.args.bound l.loop-j.invariant.2 (omega arith)
+    going_ready c.requires c.args.bound c.loop-j.invariant.2 (omega arith)
 
 pub overflow_add-passed : goal.overflow_add-passed
 overflow_add-passed c =
-    let t = c in
-    let l = t in
-    let s = l in
-    omega (arith, (going_on s.requires s.args.bound l.loop-j.invariant.2 (omega arith) t.take_one-took.ensures).behind)
+    omega (arith, (going_on c.requires c.args.bound c.loop-j.invariant.2 (omega arith) c.take_one-took.ensures).behind)
 
 pub overflow_add-ended : goal.overflow_add-ended
 overflow_add-ended c =
-    let t = c in
-    let l = t in
-    let s = l in
-    omega (arith, (going_on s.requires s.args.bound l.loop-j.invariant.2 (omega arith) t.take_one-took.ensures).few)
+    omega (arith, (going_on c.requires c.args.bound c.loop-j.invariant.2 (omega arith) c.take_one-took.ensures).few)
 
 pub loop-j-preserved : goal.loop-j-preserved
 loop-j-preserved c =
-    let t = c in
-    let l = t in
-    let s = l in
-    (search rules, search rules, going_on s.requires s.args.bound l.loop-j.invariant.2 (omega arith) t.take_one-took.ensures)
+    (search rules, search rules, going_on c.requires c.args.bound c.loop-j.invariant.2 (omega arith) c.take_one-took.ensures)
 
 pub returns : goal.returns
 returns c =
-    let l = c in
-    let s = l in
-    rw c.clear.ensures (going_ends s.requires s.args.bound l.loop-j.invariant.2 (omega arith))
+    rw c.clear.ensures (going_ends c.requires c.args.bound c.loop-j.invariant.2 (omega arith))

@@ -26,4 +26,4 @@ unfolding field
 returns c =
     let a = c.args in
     let w = c.put_number-end in
-    (stored_byte a.out.now a.at (decimal a.n) w.result w.new.0 a.byte w.ensures, omega (arith, length-number a.n (omega arith), w.ensures.ends))
+    (stored_byte a.out.now a.at (decimal a.n) w.result w.new.out a.byte w.ensures, omega (arith, length-number a.n (omega arith), w.ensures.ends))

@@ -1,7 +1,6 @@
 -- Assumes nothing.
 use lib.Seq.{sets, take-length}
 use Rattle.pieces.proofs.Printing.{text_turn}
-use Prim.Native.Nat.{◌-◌}
 use mathlib.Core.Path.{◌≡◌, refl, ap, ◌∙◌}
 use native.Mathlib.Omega.{arith}
 use borrow.Author.Rules.{rules}

@@ -1,0 +1,10 @@
+-- The pieces of the line stored behind each other (stored_then).
+-- Assumes nothing.
+use Rattle.answers.specs.Answers.{refused_text}
+use Rattle.text.proofs.Stored.{stored_then}
+use native.Mathlib.Omega.{arith}
+use Rattle.answers.proofs.put_refused.Goals as goal
+
+pub returns : goal.returns
+unfolding refused_text
+returns c = (stored_then c.put_text-a.ensures c.put_field.ensures.0, omega (arith, c.put_text-a.ensures.ends, c.put_field.ensures.1))

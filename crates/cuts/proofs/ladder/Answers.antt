@@ -1,7 +1,7 @@
 use lib.ListN.{replicate, get_or, set, length-set}
 use Rattle.cuts.proofs.Ladders.{ladder_starts, ladder_turn}
 use mathlib.Core.Path.{subst, ◌≡◌, refl, ap, ◌∙◌}
-use Prim.Native.Nat.{◌^◌, ℕ, ◌+◌, ◌-◌, ◌*◌}
+use Prim.Native.Nat.{◌^◌, ℕ, ◌+◌, ◌*◌}
 use native.Mathlib.Nat.{pow-suc}
 use lib.Pow.{pow_mono, pow_pos}
 use native.Mathlib.Numerals.{add-one}

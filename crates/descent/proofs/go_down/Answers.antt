@@ -1,14 +1,10 @@
 -- Assumes nothing.
-use Prim.Native.Nat.{◌-◌}
-use mathlib.Core.Path.{◌≡◌, refl, ◌∙◌}
+use mathlib.Core.Path.{refl, ◌∙◌}
 use native.Mathlib.Omega.{arith}
 use borrow.Author.Rules.{rules}
-use lib.ListN.{get_or}
 use Rattle.rules.proofs.Soundness.{levels_few}
-use Rattle.layout.specs.SoundImage.{n_of, heap_of}
-use Rattle.header.specs.Record.{row_of}
-use Rattle.descent.specs.Landed.{top_of, later_of}
-use Rattle.descent.proofs.Going.{Facing, faces, going_through}
+use Rattle.layout.specs.SoundImage.{n_of}
+use Rattle.descent.proofs.Going.{faces, going_through}
 use Rattle.descent.proofs.Turn.{asks, row_inside, row_is, visitable, x_is, goes_on, stops}
 use Rattle.descent.proofs.Starts.{going_starts, top_length, waits_few, words_say}
 use Rattle.descent.proofs.go_down.Goals as goal
@@ -54,14 +50,14 @@ pub overflow_add-from : goal.overflow_add-from
 overflow_add-from c =
     let v = c.loop-i.invariant in
     let h = faces c.loop-i.invariant.7 (omega arith) in
-    omega (arith, (asks h v.4 v.5).0, c.slice_known-5-1.given 5)
+    grind (arith, (asks h v.4 v.5).0)
 
 pub overflow_add-count : goal.overflow_add-count
 overflow_add-count c =
     let v = c.loop-i.invariant in
     let h = faces c.loop-i.invariant.7 (omega arith) in
     let r = c.row_at-row.ensures ∙ row_is h v.4 v.5 v.8 in
-    rw r (omega (arith, (asks h v.4 v.5).2, c.slice_known-5-1.given 5))
+    rw r (grind (arith, (asks h v.4 v.5).2))
 
 pub visit-t-requires : goal.visit-t-requires
 visit-t-requires c =
@@ -89,7 +85,7 @@ pub overflow_mul-width : goal.overflow_mul-width
 overflow_mul-width c =
     let v = c.loop-i.invariant in
     let h = faces c.loop-i.invariant.7 (omega arith) in
-    omega (arith, (asks h v.4 v.5).3, v.8, c.slice_known-5-1.given 5)
+    grind (arith, (asks h v.4 v.5).3, v.8)
 
 pub loop-i-preserved : goal.loop-i-preserved
 loop-i-preserved c =

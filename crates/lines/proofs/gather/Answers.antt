@@ -4,7 +4,7 @@ use borrow.Author.Tests.{lt-ltb, le-ltb}
 use Rattle.text.specs.Cuts.{newline, up_to}
 use Rattle.text.proofs.Cuts.{up_to_here, up_to_turn, up_to_end}
 use Rattle.lines.proofs.Gathering.{gather_none, gather_turn, gathers_at}
-use Prim.Native.Nat.{◌+◌, ◌-◌}
+use Prim.Native.Nat.{◌+◌}
 use mathlib.Core.Path.{◌≡◌, refl, sym}
 use native.Mathlib.Omega.{arith}
 use borrow.Author.Rules.{rules}

@@ -1,7 +1,7 @@
 -- Assumes nothing.
 use lib.Seq.{take_all}
 use Rattle.queue_lines.proofs.Serving.{goes_none, goes_then}
-use Prim.Native.Nat.{◌-◌, ◌≤◌}
+use Prim.Native.Nat.{◌≤◌}
 use mathlib.Core.Path.{◌≡◌, refl}
 use native.Mathlib.Omega.{arith}
 use borrow.Author.Rules.{rules}

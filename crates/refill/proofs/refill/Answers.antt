@@ -26,7 +26,7 @@ overflow_add-end c =
     let xs = s.args.img.now in
     let d = s.requires.0 in
     let o = s.requires.1 in
-    omega (arith, (cuts_asks d xs s.args.r o).1, c.slice_known-3-1.given 5)
+    grind (arith, (cuts_asks d xs s.args.r o).1)
 
 pub row_at-row-requires : goal.row_at-row-requires
 row_at-row-requires c =

@@ -9,7 +9,7 @@ use Rattle.run.specs.Turns.{AllOfferable, relaxed}
 use Rattle.run.proofs.relax.Given as goal
 
 abbrev pub invariant-loop-j : goal.invariant-loop-j
-invariant-loop-j l =     (l.j ≤ l.count)
+invariant-loop-j l = (l.j ≤ l.count)
     × (length l.distances ≡ length l.initial.distances)
     × (length l.image ≡ length l.initial.image)
     × ((t : State) → Underway l.n t l.initial.distances l.initial.image → AllOfferable l.n t.settled l.d (row l.sheet l.u) → Underway l.n (relaxed t l.d (take l.j (row l.sheet l.u))) l.distances l.image)

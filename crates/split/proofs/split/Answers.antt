@@ -22,17 +22,20 @@ loop-j-preserved c =
     let l = c.loop-j in
     let s = c in
     let a = s.args in
-    elim c.if-v-p.branch [ then-v-p w ↦ (
-      omega arith,
-      omega arith,
-      rw w.img-is (simp length-set l.invariant.2),
-      rw (w.img-is, w.k-is) (split_goes a.img.now a.area a.to a.tag a.v l.j l.img l.k l.invariant.3 (omega arith) (omega arith) w.if-v-p.true),
-    ) | else-v-p w ↦ (
-      omega arith,
-      omega arith,
-      rw w.img-is (simp length-set l.invariant.2),
-      rw (w.img-is, w.k-is) (split_stays a.img.now a.area a.to a.tag a.v l.j l.img l.k l.invariant.3 (omega arith) (omega arith) w.if-v-p.false),
-    ) ]
+    elim c.if-v-p.branch [
+      | then-v-p w ↦ (
+        omega arith,
+        omega arith,
+        rw w.img-is (simp length-set l.invariant.2),
+        rw (w.img-is, w.k-is) (split_goes a.img.now a.area a.to a.tag a.v l.j l.img l.k l.invariant.3 (omega arith) (omega arith) w.if-v-p.true),
+      )
+      | else-v-p w ↦ (
+        omega arith,
+        omega arith,
+        rw w.img-is (simp length-set l.invariant.2),
+        rw (w.img-is, w.k-is) (split_stays a.img.now a.area a.to a.tag a.v l.j l.img l.k l.invariant.3 (omega arith) (omega arith) w.if-v-p.false),
+      )
+    ]
 
 pub returns : goal.returns
 returns c =

@@ -1,6 +1,5 @@
 -- Assumes nothing.
 use Rattle.stretch_tests.proofs.Gathered.{gathered_start, gathered_turn, gathered_says}
-use Prim.Native.Nat.{◌-◌}
 use mathlib.Core.Path.{refl}
 use native.Mathlib.Omega.{arith}
 use Rattle.stretch_tests.proofs.zeros.Goals as goal

@@ -1,5 +1,4 @@
 -- Assumes nothing.
-use Prim.Native.Nat.{◌-◌}
 use native.Mathlib.Omega.{arith}
 use borrow.Author.Rules.{rules}
 use Rattle.tidy.proofs.Filling.{dealing_starts, dealing_ready, dealing_turn, dealing_ends}

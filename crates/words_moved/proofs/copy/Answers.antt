@@ -1,6 +1,5 @@
 -- Assumes nothing.
 use Rattle.words_moved.proofs.Turns.{move_turn}
-use Prim.Native.Nat.{◌-◌}
 use mathlib.Core.Path.{◌≡◌}
 use native.Mathlib.Omega.{arith}
 use borrow.Author.Rules.{rules}

@@ -11,12 +11,11 @@ run: setup
 # The gate: proves every crate from nothing, tries every must-fail edit, runs each program. Its last line is 'N passed, 0 failed'.
 test: setup
 	@scripts/check-docs
-	@rt fmt --check
 	@scripts/compare
 	@scripts/faces
 	@scripts/run --test
 	@scripts/view --test
-	@rt ci
+	@scripts/gate
 
 # every measured table: speed as ratios in one run, page transfers
 bench: setup

@@ -1,5 +1,5 @@
 //! The commands from a drawing to its distances, against plain Bellman-Ford; and every wrong word or file told in one
-//! sentence. The proved program is the one that `rt check distances` leaves in target/bin.
+//! sentence. The proved program is the one that scripts/programs leaves in target/bin.
 
 mod decoded;
 

@@ -8,13 +8,14 @@ use mathlib.Core.Path.{◌≡◌, refl, sym, ap, ◌∙◌}
 use native.Mathlib.Omega.{arith}
 use borrow.Author.Tests.{ne_eqb, ltb-false, le-ltb}
 use lib.Dec.{ltb, T as Holds}
-use lib.ListN.{length, take}
-use lib.Seq.{sets, length-take-le}
+use lib.ListN.{length, take, replicate, length-replicate}
+use lib.Seq.{sets, length-sets, length-take-le}
 use Rattle.lists.specs.Part.{part-put-same}
-use Rattle.sheet_format.specs.Numbers.{most_records}
+use Rattle.sheet_format.specs.Numbers.{most_vertices, most_records}
 use Rattle.sheet_format.specs.Sheet.{wrong_count, sheet_length}
 use Rattle.sheet_format.specs.Writer.{Edge, too_many, write_refusal, later_target}
 use Rattle.sheet_format.proofs.Tests.{or_left, or_right, or_both}
+use Rattle.sheet_format.proofs.Judge.{count_right}
 use Rattle.sheet_format.proofs.Main.{written_length}
 use Rattle.runs.specs.Write.{write_call}
 use Rattle.sheet_records.specs.Judged.{judged_words, Put}
@@ -52,6 +53,25 @@ module _ (n v m room : ℕ) (words t : List ℕ) (roomy : Roomy n m room) (e : l
 -- the words of the records, among those of the array
 pub front_words : (xs : List ℕ) (n m : ℕ) (es : List Edge) → m ≡ length es → 2 * m ≤ length xs → take (2 * m) (sets xs 0 (judged_words n es)) ≡ judged_words n es
 front_words xs n m es e h = part-put-same (judged_words n es) xs 0 (2 * m) (omega (arith, length_judged n es)) (omega arith)
+
+-- an array of N zeros is enough where N words are; its length is never computed, as N is large
+pub zeros_roomy : (N n m : ℕ) → Roomy n m N → Roomy n m (length {A = ℕ} (replicate N 0))
+zeros_roomy N n m roomy = rw (length-replicate {A = ℕ} N 0) roomy
+
+-- the words of the records of a slice, in such an array
+module _ (N n : ℕ) (ys : List lent.Edge) (roomy : Roomy n (length ys) N) where
+  pub array_room : (2 * length ys ≤ length {A = ℕ} (replicate N 0)) × (n ≤ most_vertices)
+  array_room = ((zeros_roomy N n (length ys) roomy).enough, (count_right n roomy.counted).1)
+
+  module _ (ws : List ℕ) (e : ws ≡ sets (replicate N 0) 0 (judged_words n (records_of ys))) where
+    pub array_long : N ≡ length ws
+    array_long = sym (ap length e ∙ length-sets (replicate N 0) 0 (judged_words n (records_of ys)) ∙ length-replicate {A = ℕ} N 0)
+
+    pub array_roomy : Roomy n (length ys) (length ws)
+    array_roomy = rw (← array_long) roomy
+
+    pub array_words : take (2 * length ys) ws ≡ judged_words n (records_of ys)
+    array_words = ap (take (2 * length ys)) e ∙ front_words (replicate N 0) n (length ys) (records_of ys) (sym (length_records ys)) array_room.0
 
 -- after 21
 pub after_many_few : (n m : ℕ) → (wrong_count n || ltb most_records m) ≡ false → m ≤ most_records

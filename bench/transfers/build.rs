@@ -50,21 +50,16 @@ fn without_contracts(source: &str) -> String {
         if contract || open_braces > 0 {
             open_braces += line.matches('{').count();
             open_braces -= line.matches('}').count();
-        } else if !text.starts_with("ghost use ") {
-            module += &plain(line);
+        } else if !text.starts_with("ghost use ") && !text.starts_with("#![tactic") {
+            module += &counted(line);
             module.push('\n');
         }
     }
     module
 }
 
-/// Records and answers are copied in the proved sources, as numbers are.
-fn plain(line: &str) -> String {
-    let line = line.replace("&mut [u64]", "&mut Words");
-    let line = line.replace("&[u64]", "&Words");
-    let name = line.strip_prefix("pub ").unwrap_or(&line);
-    if name.starts_with("struct ") || name.starts_with("enum ") {
-        return format!("#[derive(Clone, Copy)]\n{line}");
-    }
-    line
+/// A slice of words as one that notes each access.
+fn counted(line: &str) -> String {
+    line.replace("&mut [u64]", "&mut Words")
+        .replace("&[u64]", "&Words")
 }

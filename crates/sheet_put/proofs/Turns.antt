@@ -73,7 +73,7 @@ under_length m f (suc r) (x ∷ l) s w a b =
 pub end_start : (l : List ℕ) (u r : ℕ) → Rises 0 l → RowEnd l u r → before (row_in l) (suc u) ≡ r
 end_start l u r s e =
     before_under (row_in l) l s (λ x. refl) (suc u)
-    ∙ under_length (suc u) 0 r l s e.within (λ i h. omega (arith, e.up_to_lem i h)) (λ h. e.later h)
+    ∙ under_length (suc u) 0 r l s e.within (λ i h. omega (arith, e.up_to i h)) (λ h. e.later h)
 
 length_ends : (l : List ℕ) (u : ℕ) → length (row_ends l u) ≡ u
 length_ends l zero = refl

@@ -24,5 +24,5 @@ sheet_of n v l = head_of n (length l) v ++ (starts (row_in l) n ++ pairs (halves
 -- the words before r are of the rows up to u, and r is of a later one
 pub record RowEnd (l : List ℕ) (u r : ℕ) : Type 0 where
   pub within : r ≤ length l
-  pub up_to_lem : (i : ℕ) → i < r → row_of (get_or l i 0) < u + 1
+  pub up_to : (i : ℕ) → i < r → row_of (get_or l i 0) < u + 1
   pub later : r < length l → u < row_of (get_or l r 0)

@@ -23,7 +23,7 @@ loop-u-preserved c =
       search rules,
       search rules,
       r.ensures.within,
-      r.ensures.up_to_lem,
+      r.ensures.up_to,
       c.put_word.ensures ∙ rw l.invariant.4 (ends_turn a.t.now a.words.now l.u r.result c.requires.1 r.ensures),
     )
 

@@ -10,7 +10,7 @@ loop-r-init c = c.requires
 pub returns-then-u-x : goal.returns-then-u-x
 returns-then-u-x c =
     let l = c.loop-r in
-    record { within = omega arith; up_to_lem = l.invariant.1; later = λ h. omega arith }
+    record { within = omega arith; up_to = l.invariant.1; later = λ h. omega arith }
 
 pub loop-r-preserved : goal.loop-r-preserved
 loop-r-preserved c =
@@ -20,4 +20,4 @@ loop-r-preserved c =
 pub returns : goal.returns
 returns c =
     let l = c.loop-r in
-    record { within = omega arith; up_to_lem = l.invariant.1; later = λ h. absurd (omega arith) }
+    record { within = omega arith; up_to = l.invariant.1; later = λ h. absurd (omega arith) }

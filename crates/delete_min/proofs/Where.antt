@@ -175,3 +175,8 @@ module _ (xs : List ℕ) (k : SoundImage xs) where
             answer = rw f.found (ap (λ (x : ℕ). Min (id_of x) (key_of x) (r.level + 1)) p ∙ ap (λ (x : ℕ). Min (id_of (smallest s.elements)) (key_of (smallest s.elements)) x) j);
             words = rw f.found e;
           }
+
+      -- the same of any id and key that are those of the first cut
+      pub taken_as : (q : Refilled) (zs us : List ℕ) → Refills (site s) zs q → us ≡ lay_out n (rebuilt s) ++ later_of xs
+          → (i w : ℕ) → i ≡ id_of (get_or q.cuts 0 0) → w ≡ key_of (get_or q.cuts 0 0) → Takes (Min i w (r.level + 1)) xs us
+      taken_as q zs us g e i w a b = rw (a, b) (taken q zs us g e)

@@ -7,7 +7,7 @@ ghost use Rattle.answers.specs.Answers.{longest_text};
 ghost use Rattle.report.specs.Report.{longest_sheet};
 ghost use Rattle.distances.specs.Answered.{distance_words, image_words, Answered};
 
-use std::io::{Read, Write};
+use std::io::{Stdin, Stdout};
 use streams::Printed;
 
 // One byte more than the longest sheet has, so that a longer one shows.
@@ -44,9 +44,9 @@ fn main(rt: HostRuntime) {
 }
 
 // Reads the sheet, and prints what is reported of it.
-fn answer_all<R: Read, W: Write>(
-    input: &mut R,
-    output: &mut W,
+fn answer_all(
+    input: &mut Stdin,
+    output: &mut Stdout,
     buffer: &mut [u8],
     distances: &mut [u64; DISTANCES],
     image: &mut [u64; IMAGE],

@@ -36,6 +36,7 @@ pub enum MinAnswer {
 }
 
 // Makes the slice a fresh image for n ids; its old words do not matter. Refusals 1, 2.
+#[tactic(auto, using(crate::proofs::Returns::fresh_none))]
 pub fn fresh(image: &mut [u64], n: u64) -> Answer
     ensures { outcome result image.new ≡ fresh_call n image.old }
 {

@@ -10,7 +10,7 @@ ghost use Rattle.queue.specs.Reads.{reads_left};
 ghost use Rattle.queue.specs.Answered.{cleared, Turned, Answered};
 
 use lines::ROOM;
-use std::io::{Read, Write};
+use std::io::{Stdin, Stdout};
 use streams::Printed;
 
 // The words of the image, for 1,024 ids.
@@ -56,9 +56,9 @@ fn main(rt: HostRuntime) {
 }
 
 // Answers the input to its end.
-fn answer_all<R: Read, W: Write>(
-    input: &mut R,
-    output: &mut W,
+fn answer_all(
+    input: &mut Stdin,
+    output: &mut Stdout,
     chunk: &mut [u8; CHUNK],
     line: &mut [u8; ROOM],
     image: &mut [u64; IMAGE],
@@ -89,9 +89,9 @@ fn answer_all<R: Read, W: Write>(
 }
 
 // Reads once, answers the lines that came, and prints the text.
-fn answer_some<R: Read, W: Write>(
-    input: &mut R,
-    output: &mut W,
+fn answer_some(
+    input: &mut Stdin,
+    output: &mut Stdout,
     chunk: &mut [u8],
     line: &mut [u8; ROOM],
     held: usize,
@@ -126,8 +126,8 @@ fn reads_left(reads: usize, came: usize, printed: Printed) -> usize
 }
 
 // "The last line may lack its newline": answers what is held at the end.
-fn answer_last<W: Write>(
-    output: &mut W,
+fn answer_last(
+    output: &mut Stdout,
     line: &[u8; ROOM],
     held: usize,
     image: &mut [u64; IMAGE],

@@ -1,7 +1,7 @@
 -- Where the way down stopped, and what stands there once the levels are filled again.
 --   Site     what the words stand for             OnSite   the words as they are asked for
 --   Refills  the words and the counts then        last_cut  the bound that level k keeps
--- The closed forms by cuts (refill_cuts, rest_cuts) are the page's split and refill: laws `refill_cuts`, `rest_cuts` (Rattle.rules).
+-- The closed forms by cuts (refill_cuts, rest_cuts) are the page's split and refill: laws `refill_cuts_lem`, `rest_cuts_lem` (Rattle.rules).
 -- Assumes nothing.
 use Rattle.std.specs.Prelude.{ℕ, suc, ◌+◌, ◌^◌, ◌<◌, ◌≤◌, cond, ◌≡◌, List, [], ◌++◌, leb, ltb, length, get_or}
 use Rattle.rules.specs.Sound.{Asc}

@@ -4,7 +4,7 @@
 ghost use Rattle.std.specs.Prelude.{◌+◌, ◌<◌, ◌^◌, ◌≡◌, true, ◌&&◌, length};
 ghost use Rattle.io.specs.Counts.{IsPrefixLen};
 
-use std::io::{Read, Write};
+use std::io::{Read, Stdin, Stdout, Write};
 
 // The receipt for a text that was handed to standard output: how many bytes it has, and whether all were taken. Its fields are this crate's alone, so that a program
 // has a receipt only for what it printed.
@@ -15,7 +15,7 @@ pub struct Printed {
 }
 
 // Reads once: how many bytes came to the start of the chunk, and none at the end of the input or where the read failed.
-pub fn read_some<R: Read>(input: &mut R, chunk: &mut [u8]) -> usize
+pub fn read_some(input: &mut Stdin, chunk: &mut [u8]) -> usize
     ensures { IsPrefixLen result chunk.new }
 {
     match input.read(chunk) {
@@ -25,7 +25,7 @@ pub fn read_some<R: Read>(input: &mut R, chunk: &mut [u8]) -> usize
 }
 
 // Reads until the buffer is full or the input ends.
-pub fn read_all<R: Read>(input: &mut R, buffer: &mut [u8]) -> usize
+pub fn read_all(input: &mut Stdin, buffer: &mut [u8]) -> usize
     ensures { IsPrefixLen result buffer.new }
 {
     let mut done = 0;
@@ -40,7 +40,7 @@ pub fn read_all<R: Read>(input: &mut R, buffer: &mut [u8]) -> usize
 }
 
 // Hands a text to standard output.
-pub fn print<W: Write>(output: &mut W, text: &[u8]) -> Printed
+pub fn print(output: &mut Stdout, text: &[u8]) -> Printed
     ensures { result.bytes ≡ length text.now }
 {
     let whole = output.write_all(text).is_ok();

@@ -2,7 +2,7 @@
 -- Assumes nothing.
 use mathlib.Core.Path.{◌∙◌}
 use native.Mathlib.Omega.{arith}
-use Rattle.delete_min.proofs.Where.{words_inside, stack_ends, bare, site, spent, emptied, found_at, on_site, filled, taken}
+use Rattle.delete_min.proofs.Where.{words_inside, stack_ends, bare, site, spent, emptied, found_at, on_site, filled, taken_as}
 use Rattle.push_update.proofs.Header.{top_fits}
 use Rattle.delete_min.proofs.delete_min.Goals as goal
 
@@ -79,4 +79,4 @@ returns c =
     let w = c.go_down-r in
     let f = found_at xs k w.result w.new.img (omega arith) w.ensures in
     let g = c.refill-q.ensures (site xs k f.at) (on_site xs k _ _ f) in
-    rw (c.id.ensures, c.key.ensures) (taken xs k _ _ f _ _ _ g (c.seal.ensures (site xs k f.at) (filled xs k _ _ f _ _ g)))
+    taken_as xs k _ _ f _ _ _ g (c.seal.ensures (site xs k f.at) (filled xs k _ _ f _ _ g)) _ _ (omega arith) (omega arith)

@@ -7,13 +7,13 @@ use lib.Seq.{length-take-le}
 use Rattle.distances.proofs.answer_all.Goals as goal
 
 pub slice_bounds-print-end-2 : goal.slice_bounds-print-end-2
-slice_bounds-print-end-2 g c =
+slice_bounds-print-end-2 c =
     let t = c.answer-end in
     let e = length-take-le t.result t.new.out (omega (arith, t.ensures.1)) in
     search rules
 
 pub returns : goal.returns
-returns g c =
+returns c =
     let t = c.answer-end in
     let n = c.read_all-n in
     let p : c.print.result.bytes ≡ t.result = omega (arith, c.print.ensures, length-take-le t.result t.new.out (omega (arith, t.ensures.1))) in

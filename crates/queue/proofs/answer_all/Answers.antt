@@ -6,18 +6,18 @@ use Rattle.queue.proofs.Taking.{taken_none, taken-turn, taken_ends}
 use Rattle.queue.proofs.answer_all.Goals as goal
 
 pub loop-reads-init : goal.loop-reads-init
-loop-reads-init g c =
+loop-reads-init c =
     let a = c.args in
     (omega arith, omega arith, omega (arith, c.nothing-printed.ensures.0), counted_none _, rw c.nothing-printed.ensures.0 (taken_none a.image.now a.line.now))
 
 pub loop-reads-smaller : goal.loop-reads-smaller
-loop-reads-smaller g c =
+loop-reads-smaller c =
     let l = c.loop-reads in
     let some = c.loop-reads-test.true in
     omega (arith, c.reads_left-reads.ensures, left_less l.reads some c.answer_some-t.result.came c.both-printed.result.whole)
 
 pub loop-reads-preserved : goal.loop-reads-preserved
-loop-reads-preserved g c =
+loop-reads-preserved c =
     let a = c.args in
     let l = c.loop-reads in
     let s = c.answer_some-t in
@@ -28,7 +28,7 @@ loop-reads-preserved g c =
     (s.ensures.fits, omega (arith, t, f, s.ensures.within, s.auto.chunk), omega (arith, t, f, s.ensures.ends, b.ensures.0), rw t (counted_turn l.reads some l.came s.result.came b.result.whole (l.invariant.3.more some)), rw b.ensures.0 (taken-turn a.image.now l.came l.printed.bytes l.line l.held l.image l.invariant.4 _ l.out s.result _ _ _ s.ensures))
 
 pub returns : goal.returns
-returns g c =
+returns c =
     let a = c.args in
     let l = c.loop-reads in
     let f = c.answer_last-p in

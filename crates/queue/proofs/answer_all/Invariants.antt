@@ -9,7 +9,7 @@ use Rattle.queue.proofs.Taking.{Taken}
 use Rattle.queue.proofs.answer_all.Given as goal
 
 abbrev pub invariant-loop-reads : goal.invariant-loop-reads
-invariant-loop-reads g l =
+invariant-loop-reads l =
     (l.held ≤ room)
     × (l.came + 512 * l.reads ≤ 512 * most_reads)
     × (l.printed.bytes + 34304 * l.reads ≤ 34304 * most_reads)
@@ -17,4 +17,4 @@ invariant-loop-reads g l =
     × Taken l.initial.image l.came l.printed.bytes l.line l.held l.image
 
 abbrev pub decreases-loop-reads : goal.decreases-loop-reads
-decreases-loop-reads g l = l.reads
+decreases-loop-reads l = l.reads

@@ -7,13 +7,13 @@ use lib.Seq.{length-take-le}
 use Rattle.queue.proofs.answer_last.Goals as goal
 
 pub slice_bounds-print-end-2 : goal.slice_bounds-print-end-2
-slice_bounds-print-end-2 g c =
+slice_bounds-print-end-2 c =
     let f = c.finish-end in
     let e = length-take-le f.result f.new.out (omega (arith, f.ensures.1)) in
     search rules
 
 pub returns : goal.returns
-returns g c =
+returns c =
     let f = c.finish-end in
     let p : c.print.result.bytes ≡ f.result = omega (arith, c.print.ensures, length-take-le f.result f.new.out (omega (arith, f.ensures.1))) in
     rw p f.ensures

@@ -7,13 +7,13 @@ use lib.Seq.{length-take-le}
 use Rattle.queue.proofs.answer_some.Goals as goal
 
 pub slice_bounds-print-end-2 : goal.slice_bounds-print-end-2
-slice_bounds-print-end-2 g c =
+slice_bounds-print-end-2 c =
     let s = c.serve-s in
     let e = length-take-le s.result.end s.new.out (omega (arith, s.ensures.2)) in
     search rules
 
 pub returns : goal.returns
-returns g c =
+returns c =
     let s = c.serve-s in
     let n = c.read_some-n in
     let p : c.print.result.bytes ≡ s.result.end = omega (arith, c.print.ensures, length-take-le s.result.end s.new.out (omega (arith, s.ensures.2))) in

@@ -50,7 +50,10 @@ fn without_contracts(source: &str) -> String {
         if contract || open_braces > 0 {
             open_braces += line.matches('{').count();
             open_braces -= line.matches('}').count();
-        } else if !text.starts_with("ghost use ") && !text.starts_with("#![tactic") {
+        } else if !["ghost use ", "#![tactic", "#[tactic"]
+            .iter()
+            .any(|begin| text.starts_with(begin))
+        {
             module += &counted(line);
             module.push('\n');
         }

@@ -1,4 +1,4 @@
-// The C face: the outward calls as functions on numbers and slices, a pointer and a count of words each. The answer is 0, or the page's refusal
+// What goes out to C, as a library (the crate `export_c` gives it the C names): the outward calls as functions on numbers and slices, a pointer and a count of words each. The answer is 0, or the page's refusal
 // number; Delete-Min's is 1 where it says empty. The inner calls rely on a sound image, which their caller has tested or made.
 #![tactic(auto)]
 
@@ -32,24 +32,21 @@ fn number(a: Answer) -> u64
     }
 }
 
-#[unsafe(no_mangle)]
-pub extern "C" fn lq_fresh(image: &mut [u64], n: u64) -> u64
+pub fn lq_fresh(image: &mut [u64], n: u64) -> u64
     ensures { Numbered result (λ a. outcome a image.new ≡ fresh_call n image.old) }
 {
     let a = level_queue::fresh(image, n);
     number(a)
 }
 
-#[unsafe(no_mangle)]
-pub extern "C" fn lq_decrease(image: &mut [u64], id: u64, key: u64) -> u64
+pub fn lq_decrease(image: &mut [u64], id: u64, key: u64) -> u64
     ensures { Numbered result (λ a. ByVerdict image.old (λ v. decrease_call v image.old id key) (outcome a image.new)) }
 {
     let a = level_queue::decrease(image, id, key);
     number(a)
 }
 
-#[unsafe(no_mangle)]
-pub extern "C" fn lq_delete(image: &mut [u64], id: u64) -> u64
+pub fn lq_delete(image: &mut [u64], id: u64) -> u64
     ensures { Numbered result (λ a. ByVerdict image.old (λ v. delete_call v image.old id) (outcome a image.new)) }
 {
     let a = level_queue::delete(image, id);
@@ -57,8 +54,7 @@ pub extern "C" fn lq_delete(image: &mut [u64], id: u64) -> u64
 }
 
 // 0 for a sound image, else 2 or 3.
-#[unsafe(no_mangle)]
-pub extern "C" fn lq_judge(image: &[u64]) -> u64
+pub fn lq_judge(image: &[u64]) -> u64
     ensures { Refusal image.now result }
 {
     level_queue::refusal(image)
@@ -87,13 +83,7 @@ fn give(a: MinAnswer, id: &mut u64, key: &mut u64, reach: &mut u64) -> u64
     }
 }
 
-#[unsafe(no_mangle)]
-pub extern "C" fn lq_delete_min(
-    image: &mut [u64],
-    id: &mut u64,
-    key: &mut u64,
-    reach: &mut u64,
-) -> u64
+pub fn lq_delete_min(image: &mut [u64], id: &mut u64, key: &mut u64, reach: &mut u64) -> u64
     ensures { MinAnswered result image.old image.new id.old key.old reach.old id.new key.new reach.new }
 {
     let a = level_queue::delete_min(image);
@@ -102,29 +92,21 @@ pub extern "C" fn lq_delete_min(
 
 // ---- the inner calls
 
-#[unsafe(no_mangle)]
-pub extern "C" fn lq_inner_decrease(image: &mut [u64], id: u64, key: u64)
+pub fn lq_inner_decrease(image: &mut [u64], id: u64, key: u64)
     requires { SoundImage image.old × (id < n_of image.old) × (key < KEYS) }
     ensures { image.new ≡ (push_call image.old (decrease_of (pair_of key id))).image }
 {
     level_queue::inner_decrease(image, id, key);
 }
 
-#[unsafe(no_mangle)]
-pub extern "C" fn lq_inner_delete(image: &mut [u64], id: u64)
+pub fn lq_inner_delete(image: &mut [u64], id: u64)
     requires { SoundImage image.old × (id < n_of image.old) }
     ensures { image.new ≡ (push_call image.old (delete_of id)).image }
 {
     level_queue::inner_delete(image, id);
 }
 
-#[unsafe(no_mangle)]
-pub extern "C" fn lq_inner_delete_min(
-    image: &mut [u64],
-    id: &mut u64,
-    key: &mut u64,
-    reach: &mut u64,
-) -> u64
+pub fn lq_inner_delete_min(image: &mut [u64], id: &mut u64, key: &mut u64, reach: &mut u64) -> u64
     requires { SoundImage image.old }
     ensures { InnerAnswered result image.old image.new id.old key.old reach.old id.new key.new reach.new }
 {
@@ -154,8 +136,7 @@ fn give_sheet(a: Acceptance, n: &mut u64, h: &mut u64, source: &mut u64) -> u64
     }
 }
 
-#[unsafe(no_mangle)]
-pub extern "C" fn lq_accept(sheet: &[u8], n: &mut u64, h: &mut u64, source: &mut u64) -> u64
+pub fn lq_accept(sheet: &[u8], n: &mut u64, h: &mut u64, source: &mut u64) -> u64
     ensures { SheetGiven result (accept_of sheet.now) n.old h.old source.old n.new h.new source.new }
 {
     let a = sheet::accept(sheet);
@@ -177,8 +158,7 @@ fn give_run(a: RunAnswer, reached: &mut u64) -> u64
     }
 }
 
-#[unsafe(no_mangle)]
-pub extern "C" fn lq_distances(
+pub fn lq_distances(
     sheet: &[u8],
     distances: &mut [u64],
     image: &mut [u64],
@@ -205,8 +185,7 @@ fn give_length(a: Written, length: &mut u64) -> u64
     }
 }
 
-#[unsafe(no_mangle)]
-pub extern "C" fn lq_write(
+pub fn lq_write(
     target: &mut [u8],
     n: u64,
     source: u64,
@@ -222,8 +201,7 @@ pub extern "C" fn lq_write(
 }
 
 // The same from a slice of records, three words each.
-#[unsafe(no_mangle)]
-pub extern "C" fn lq_write_edges(
+pub fn lq_write_edges(
     target: &mut [u8],
     n: u64,
     source: u64,

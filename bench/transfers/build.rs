@@ -50,7 +50,7 @@ fn without_contracts(source: &str) -> String {
         if contract || open_braces > 0 {
             open_braces += line.matches('{').count();
             open_braces -= line.matches('}').count();
-        } else if !["ghost use ", "#![tactic", "#[tactic"]
+        } else if !["ghost ", "pub ghost ", "#![tactic", "#[tactic"]
             .iter()
             .any(|begin| text.starts_with(begin))
         {

@@ -30,6 +30,65 @@ impl<T> Traced<T> {
     pub fn len(&self) -> usize {
         self.0.len()
     }
+
+    pub fn iter(&self) -> Reads<'_, T> {
+        Reads(self.0.iter())
+    }
+
+    pub fn iter_mut(&mut self) -> impl Iterator<Item = &mut T> + '_ {
+        self.0
+            .iter_mut()
+            .inspect(|member| note::<T>(&**member, true))
+    }
+}
+
+/// The members in their order, each noted as it is read.
+pub struct Reads<'a, T>(std::slice::Iter<'a, T>);
+
+impl<'a, T> Iterator for Reads<'a, T> {
+    type Item = &'a T;
+
+    fn next(&mut self) -> Option<&'a T> {
+        let member = self.0.next()?;
+        note(member, false);
+        Some(member)
+    }
+}
+
+impl<'a, T> IntoIterator for &'a Traced<T> {
+    type Item = &'a T;
+    type IntoIter = Reads<'a, T>;
+
+    fn into_iter(self) -> Reads<'a, T> {
+        self.iter()
+    }
+}
+
+/// Members moved and stored by the slice's own methods, each noted.
+impl<T: Copy> Traced<T> {
+    pub fn fill(&mut self, value: T) {
+        for at in 0..self.len() {
+            self[at] = value;
+        }
+    }
+
+    pub fn copy_within(&mut self, from: Range<usize>, to: usize) {
+        let members = from.len();
+        for turn in 0..members {
+            let at = if to <= from.start {
+                turn
+            } else {
+                members - 1 - turn
+            };
+            self[to + at] = self[from.start + at];
+        }
+    }
+
+    pub fn swap(&mut self, a: usize, b: usize) {
+        let first = self[a];
+        self[a] = self[b];
+        self[b] = first;
+    }
 }
 
 impl<T> Index<usize> for Traced<T> {

@@ -27,7 +27,7 @@ use Rattle.layout.specs.Image.{HEAD, ROW, elements_from, stack, stack_words, lay
 use Rattle.layout.proofs.Image.{length-words, roomy}
 use Rattle.header.specs.declared.Header.{Header}
 use Rattle.header.specs.Record.{word_at, column_of, header_upto, words_upto}
-use Rattle.header.proofs.Columns.{column_length, column_at}
+use Rattle.header.proofs.Columns.{column_at}
 use Rattle.at_work.specs.AtWork.{at_work, stack_place, work_place}
 use Rattle.at_work.proofs.Places.{working_length, passed_store, added_on, top_word}
 use Rattle.descent.specs.declared.Halt.{Halt}
@@ -216,10 +216,9 @@ module _ {d : Site} {xs : List ℕ} {r : Halt} {q : Refilled} (f : Filled d xs r
       go (l ∷ ls) z = rw (on_inner l ls z) (omega (arith, added_is, added_small))
 
   pub rows_asks : (r.level ≤ on.next) × (on.next ≤ suc r.level) × (on.next < ROWS) × MoreFits h r.level on.next on.added
-      × (length h.bounds ≡ ROWS) × (length h.element_counts ≡ ROWS) × (length h.update_counts ≡ ROWS)
   rows_asks =
       let few = load_asks.0 in
-      (omega (arith, at_level_lem, next_is.0), omega (arith, at_level_lem, next_is.1), omega arith, (added_fits, λ l. next_fits (omega (arith, at_level_lem, l))), column_length ws 0 (on.next + 1) few, column_length ws 1 (on.next + 1) few, column_length ws 2 (on.next + 1) few)
+      (omega (arith, at_level_lem, next_is.0), omega (arith, at_level_lem, next_is.1), omega arith, (added_fits, λ l. next_fits (omega (arith, at_level_lem, l))))
 
   -- ---- word 2
   waits_are : on.waiting ≡ waiting (rebuilt_cuts s)

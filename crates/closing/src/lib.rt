@@ -23,30 +23,24 @@ struct Onward {
 }
 
 // "Past the last level a passed Delete is dropped", and nothing then waits. Otherwise all `added` wait at level k+1.
-fn behind_stop(
-    levels: usize,
-    k: usize,
-    passed: usize,
-    added: usize,
-    waiting: u64,
-    ended: usize,
-) -> Onward
-    requires { (k < ROWS) × (ended ≤ waiting) }
-    ensures { result ≡ onward_of levels k passed added waiting ended }
+fn behind_stop(levels: usize, r: Halt, added: usize, waiting: u64) -> Onward
+    requires { (r.level < ROWS) × (r.ended ≤ waiting) }
+    ensures { result ≡ onward_of levels r.level r.passed added waiting r.ended }
 {
-    if levels <= k + 1 {
-        return Onward {
-            next: k,
-            dropped: passed,
+    if levels <= r.level + 1 {
+        Onward {
+            next: r.level,
+            dropped: r.passed,
             added: 0,
             waiting: 0,
-        };
-    }
-    Onward {
-        next: k + 1,
-        dropped: 0,
-        added,
-        waiting: waiting - (ended as u64),
+        }
+    } else {
+        Onward {
+            next: r.level + 1,
+            dropped: 0,
+            added,
+            waiting: waiting - r.ended as u64,
+        }
     }
 }
 
@@ -55,18 +49,22 @@ pub fn seal(img: &mut [u64], r: Halt, q: Refilled)
     requires { SomeFilled img.old r q }
     ensures { Seals img.old img.new r q }
 {
-    let k = r.level;
     let levels = img[places::LEVELS_AT] as usize;
     let waiting = img[places::WAITING_AT];
-    let added = r.passed + q.sunk;
-    let o = behind_stop(levels, k, r.passed, added, waiting, r.ended);
+    let o = behind_stop(levels, r, r.passed + q.sunk, waiting);
     words_moved::clear(img, r.at, o.dropped);
     let rows = o.next + 1;
     let h = header::load(img, rows);
-    let cuts = q.cuts;
-    let counts = q.counts;
-    let more = o.added as u64;
-    let g = rows_after::rows_after(h, cuts, counts, k, q.bound, o.next, more, o.waiting);
+    let g = rows_after::rows_after(
+        h,
+        q.cuts,
+        q.counts,
+        r.level,
+        q.bound,
+        o.next,
+        o.added as u64,
+        o.waiting,
+    );
     header::store(img, g, rows);
 }
 
@@ -74,19 +72,12 @@ pub fn seal(img: &mut [u64], r: Halt, q: Refilled)
 fn fresh_rows(h: Header) -> Header
     ensures { result ≡ fresh_header h }
 {
-    let bounds = [Pair::OPEN; Header::ROWS];
-    let element_counts = [0u64; Header::ROWS];
-    let update_counts = [0u64; Header::ROWS];
     Header {
-        n: h.n,
-        levels: h.levels,
         waiting: 0,
-        elements_at: h.elements_at,
-        stack_at: h.stack_at,
-        work_at: h.work_at,
-        bounds,
-        element_counts,
-        update_counts,
+        bounds: [Pair::OPEN; Header::ROWS],
+        element_counts: [0; Header::ROWS],
+        update_counts: [0; Header::ROWS],
+        ..h
     }
 }
 
@@ -97,7 +88,5 @@ pub fn wipe(img: &mut [u64], r: Halt)
 {
     words_moved::clear(img, r.at, r.passed);
     let h = header::load(img, 0);
-    let g = fresh_rows(h);
-    let levels = h.levels as usize;
-    header::store(img, g, levels);
+    header::store(img, fresh_rows(h), h.levels as usize);
 }

@@ -5,7 +5,7 @@ use mathlib.Core.Bool.{Bool, true, false, cond}
 use mathlib.Core.Path.{◌≡◌, refl, ap, ◌∙◌}
 use mathlib.Core.List.{List, [], ◌∷◌}
 use native.Mathlib.Omega.{arith}
-use borrow.Author.Tests.{le-leb, lt-leb, ltb-true, ltb-false}
+use borrow.Author.Tests.{ltb-true, ltb-false}
 use lib.Dec.{leb, ltb}
 use lib.ListN.{length, get_or, set, replicate, length-replicate}
 use lib.Seq.{sets, get_or-set_same, get_or-set_other}
@@ -15,27 +15,20 @@ use Rattle.plain.specs.Lists.{sort}
 use Rattle.rules.proofs.Sort.{length-sort}
 use Rattle.cuts.specs.Ladder.{cut_of, rung, Ladder, LadderOf}
 
-pub cut-short : (b r m : ℕ) (S : List ℕ) → length S ≡ m → m ≤ r → b ≡ cut_of b r S
-cut-short b r m S e h = rw (le-leb (length S) r (omega arith)) refl
-
-pub cut_long : (b r m : ℕ) (S : List ℕ) → length S ≡ m → r < m → get_or S (r - 1) 0 ≡ cut_of b r S
-cut_long b r m S e h = rw (lt-leb (length S) r (omega arith)) refl
-
 -- the first j cuts stand in p
 pub ladder_starts : (b : ℕ) (S p : List ℕ) → 0 < length p → LadderOf b S 0 (set p 0 (get_or S 0 0))
 ladder_starts b S p h = record { first = get_or-set_same p 0 (get_or S 0 0) 0 h; at = λ j a c. absurd (omega arith) }
 
-pub ladder_turn : (b : ℕ) (S p : List ℕ) (j : ℕ) → j + 1 < length p → LadderOf b S j p → LadderOf b S (j + 1) (set p (j + 1) (cut_of b (2 ^ (j + 1)) S))
-ladder_turn b S p j h g = record {
-  first = get_or-set_other p (j + 1) 0 (cut_of b (2 ^ (j + 1)) S) 0 (λ e. omega arith) ∙ g.first;
-  at = λ i a c. go i a c (ltb j i) refl;
-}
+pub ladder_turn : (b : ℕ) (S p : List ℕ) (j v : ℕ) → 1 ≤ j → j < length p → v ≡ cut_of b (2 ^ j) S → LadderOf b S (j - 1) p → LadderOf b S (j + 1 - 1) (set p j v)
+ladder_turn b S p j v o h e g = record { first = get_or-set_other p j 0 v 0 (λ q. omega arith) ∙ g.first; at = λ i a c. go i a (omega arith) (ltb i j) refl }
   where
-    go : (i : ℕ) → 1 ≤ i → i ≤ j + 1 → (t : Bool) → ltb j i ≡ t → get_or (set p (j + 1) (cut_of b (2 ^ (j + 1)) S)) i 0 ≡ cut_of b (2 ^ i) S
-    go i a c true e =
-        let q : i ≡ j + 1 = omega (arith, ltb-true j i e) in
-        rw q (get_or-set_same p (j + 1) (cut_of b (2 ^ (j + 1)) S) 0 h)
-    go i a c false e = get_or-set_other p (j + 1) i (cut_of b (2 ^ (j + 1)) S) 0 (λ q. omega (arith, ltb-false j i e)) ∙ g.at i a (ltb-false j i e)
+    go : (i : ℕ) → 1 ≤ i → i ≤ j → (t : Bool) → ltb i j ≡ t → get_or (set p j v) i 0 ≡ cut_of b (2 ^ i) S
+    go i a c true t =
+        let l : i < j = ltb-true i j t in
+        get_or-set_other p j i v 0 (λ q. omega arith) ∙ g.at i a (omega arith)
+    go i a c false t =
+        let q : i ≡ j = omega (arith, ltb-false i j t) in
+        rw q (get_or-set_same p j v 0 h ∙ e)
 
 pub ladder_sorted : (b : ℕ) (E p : List ℕ) (k : ℕ) → LadderOf b (sort E) k p → Ladder b E k p
 ladder_sorted b E p k g = record { at = go }

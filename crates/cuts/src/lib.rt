@@ -9,30 +9,23 @@ ghost use Rattle.cuts.specs.Ladder.{cut_of, LadderOf, Ladder};
 
 use header::Header;
 
-// The r-th of the m sorted pairs at `at`, or b where there are no more than r.
-fn cut_at(img: &[u64], at: usize, m: usize, r: usize, b: u64) -> u64
-    requires { (at + m ≤ length img.now) × (1 ≤ r) }
-    ensures { result ≡ cut_of b r (part img.now at m) }
+// The r-th of the sorted pairs, or b where there are no more than r.
+fn cut_at(sorted: &[u64], r: usize, b: u64) -> u64
+    requires { 1 ≤ r }
+    ensures { result ≡ cut_of b r sorted.now }
 {
-    if m <= r {
-        return b;
-    }
-    img[at + (r - 1)]
+    if sorted.len() <= r { b } else { sorted[r - 1] }
 }
 
-// The smallest of the m sorted pairs at `at`, and then the cuts at 2, 4, .. 2^k.
-fn ladder(img: &[u64], at: usize, m: usize, k: usize, b: u64) -> [u64; Header::ROWS]
-    requires { (at + m ≤ length img.now) × (1 ≤ m) × (k < ROWS) }
-    ensures { LadderOf b (part img.now at m) k result }
+// The smallest of the sorted pairs, and then the cuts at 2, 4, .. 2^k.
+fn ladder(sorted: &[u64], k: usize, b: u64) -> [u64; Header::ROWS]
+    requires { (1 ≤ length sorted.now) × (k < ROWS) }
+    ensures { LadderOf b sorted.now k result }
 {
     let mut p = [0u64; Header::ROWS];
-    p[0] = img[at];
-    let mut width = 1;
-    let mut j = 0;
-    while j < k {
-        width *= 2;
-        j += 1;
-        p[j] = cut_at(img, at, m, width, b);
+    p[0] = sorted[0];
+    for j in 1..=k {
+        p[j] = cut_at(sorted, 1 << j, b);
     }
     p
 }
@@ -51,11 +44,11 @@ pub fn cuts(
     ensures { (img.new ≡ img.old) × Ladder b (part img.old work m) k result }
 {
     if m == 1 {
-        return ladder(img, work, m, k, b);
+        return ladder(&img[work..work + m], k, b);
     }
     words_moved::copy(img, work, at, m);
     tidy_parts::sort_part(img, at, m);
-    let p = ladder(img, at, m, k, b);
+    let p = ladder(&img[at..at + m], k, b);
     words_moved::clear(img, at, m);
     p
 }

@@ -12,7 +12,7 @@ use Rattle.rules.specs.Rebuild.{smallest, rebuilt}
 use Rattle.rules.specs.Pair.{levels, id_of, key_of}
 use Rattle.rules.specs.Sound.{Sound}
 use Rattle.plain.proofs.Every.{every_weaken}
-use Rattle.rules.specs.Queue.{fresh, answer, delete_min}
+use Rattle.rules.specs.Queue.{fresh, delete_min}
 use Rattle.layout.specs.Image.{HEAD, elements_from, stack_from, work_from, stack, updates_below, lay_out}
 use Rattle.layout.specs.SoundImage.{n_of, heap_of, SoundImage, laid_back}
 use Rattle.layout.proofs.Image.{length_stack, roomy}

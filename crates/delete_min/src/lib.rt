@@ -23,18 +23,16 @@ pub fn delete_min(img: &mut [u64]) -> Popped
     let stack = img[places::STACK_AT] as usize;
     let end = push_update::stack_top(img, levels as usize, stack);
     let r = descent::go_down(img, end);
-    let some = r.elements;
-    if some == 0 {
+    if r.elements == 0 {
         closing::wipe(img, r);
         return Popped::Empty { reach: levels };
     }
     let q = refill::refill(img, r);
     closing::seal(img, r, q);
-    let p = q.cuts[0];
-    let reach = r.level as u64 + 1;
+    let p = Pair(q.cuts[0]);
     Popped::Min {
-        id: Pair::id(p),
-        key: Pair::key(p),
-        reach,
+        id: p.id(),
+        key: p.key(),
+        reach: r.level as u64 + 1,
     }
 }

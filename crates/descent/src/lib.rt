@@ -24,9 +24,10 @@ pub struct Halt {
     pub ended: usize,
 }
 
-// One level takes its `count` updates, which stand at `at`. Its m elements are at `from`, and then in the work area. `floor` is one past the
-// bound of the level above, 0 at level 0: an empty level whose bound is that bound takes nothing, since all its updates are above it or
-// Deletes. They lie where the next level's end, so that they are handed on by the header alone.
+// One level takes its `count` updates, which stand at `at`. Its m elements are at `from`, and then in the work area. `floor` is the least pair
+// that may come: one past the bound of the level above. An empty level whose bound is that bound takes nothing, since all its updates are above
+// it or Deletes. They lie where the next level's end, so that they are handed on by the header alone.
+// Kept: `floor` is 0 at level 0 and not a None: 0 is the least pair itself, and `Visitable`, `AllClear` and `Chain` all count from it.
 fn visit(
     img: &mut [u64],
     from: usize,
@@ -41,14 +42,12 @@ fn visit(
     requires { Visitable img.old from m work n at count bound floor }
     ensures { Visited result img.old img.new from m work n at count bound }
 {
-    if m == 0 {
-        if bound + 1 == floor {
-            return Counts {
-                elements: 0,
-                passed: count,
-                ended: 0,
-            };
-        }
+    if m == 0 && bound + 1 == floor {
+        return Counts {
+            elements: 0,
+            passed: count,
+            ended: 0,
+        };
     }
     split::lift(img, from, work, m);
     level_table::take_updates(img, work, m, n, at, count, bound)
@@ -65,38 +64,46 @@ pub fn go_down(img: &mut [u64], end: usize) -> Halt
     let first = img[places::ELEMENTS_AT] as usize;
     let work = img[places::WORK_AT] as usize;
     let mut at = end;
-    let mut held = 0;
+    let mut elements = 0;
     let mut passed = 0;
     let mut ended = 0;
     let mut width = 1;
     let mut floor = 0;
     let mut i = 0;
-    let k = loop {
+    // Kept: no `for`, since the page asks for it by name: "A loop down the levels yields the stopping level by break".
+    let level = loop {
         if i >= levels {
             break i;
         }
         let row = header::row_at(img, i);
-        let m = row.elements as usize;
         let own = row.updates as usize;
-        let bound = row.bound;
         at -= own;
         let from = first + (width - 1);
-        let count = own + passed;
-        let t = visit(img, from, m, work, n, at, count, bound, floor);
-        held = t.elements;
+        let t = visit(
+            img,
+            from,
+            row.elements as usize,
+            work,
+            n,
+            at,
+            own + passed,
+            row.bound,
+            floor,
+        );
+        elements = t.elements;
         passed = t.passed;
         ended += t.ended;
-        if 0 < held {
+        if elements > 0 {
             break i;
         }
-        floor = bound + 1;
+        floor = row.bound + 1;
         width *= 2;
         i += 1;
     };
     Halt {
-        level: k,
+        level,
         width,
-        elements: held,
+        elements,
         at,
         passed,
         ended,

@@ -55,10 +55,10 @@ fn answer_all(
     requires { (longest_sheet < length buffer.old) × (length distances.old ≡ distance_words) × (length image.old ≡ image_words) × (longest_text * (distance_words + 1) ≤ length out.old) }
     ensures { Answered buffer.new distances.old image.old out.old result distances.new image.new out.new }
 {
-    let n = streams::read_all(input, buffer);
-    let end = report::answer(&buffer[..n], distances, image, out);
+    let came = streams::read_all(input, buffer);
+    let end = report::answer(&buffer[..came], distances, image, out);
     Moved {
-        came: n,
+        came,
         printed: streams::print(output, &out[..end]),
     }
 }

@@ -1,25 +1,24 @@
 -- A sheet's acceptance by its number and its values: 0 for a sheet, whose n, h and chosen source are written; any other is the refusal of that
 -- number, and nothing is written.
 -- Assumes nothing.
-use Rattle.std.specs.Prelude.{ℕ, ◌≡◌}
-use Rattle.sheet.specs.declared.Acceptance.{Acceptance}
-use Rattle.sheet.specs.declared.Acceptance.TheVariants.{Sheet, Refused}
+use Rattle.std.specs.Prelude.{ℕ, ◌≡◌, Result, Ok, Err}
+use Rattle.sheet.specs.declared.Sheet.{Sheet}
 use Rattle.sheet.specs.Answer.{number_of}
 
 -- what stands in n, h and the source afterwards; x stood there before
-abbrev pub n_then : Acceptance → ℕ → ℕ
-n_then (Sheet n h v) x = n
-n_then (Refused k) x = x
+abbrev pub n_then : Result Sheet ℕ → ℕ → ℕ
+n_then (Ok a) x = a.n
+n_then (Err k) x = x
 
-abbrev pub h_then : Acceptance → ℕ → ℕ
-h_then (Sheet n h v) x = h
-h_then (Refused k) x = x
+abbrev pub h_then : Result Sheet ℕ → ℕ → ℕ
+h_then (Ok a) x = a.h
+h_then (Err k) x = x
 
-abbrev pub source_then : Acceptance → ℕ → ℕ
-source_then (Sheet n h v) x = v
-source_then (Refused k) x = x
+abbrev pub source_then : Result Sheet ℕ → ℕ → ℕ
+source_then (Ok a) x = a.source
+source_then (Err k) x = x
 
-pub record SheetGiven (r : ℕ) (a : Acceptance) (n h v n' h' v' : ℕ) : Type 0 where
+pub record SheetGiven (r : ℕ) (a : Result Sheet ℕ) (n h v n' h' v' : ℕ) : Type 0 where
   pub number : r ≡ number_of a
   pub n_is : n' ≡ n_then a n
   pub h_is : h' ≡ h_then a h

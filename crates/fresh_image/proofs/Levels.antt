@@ -1,40 +1,33 @@
--- The search for L, by what is left of it: at i the tries from 2^i on are still to come.
+-- How many levels n ids have, by the first power of two that reaches n.
 -- Assumes nothing.
-use Prim.Native.Nat.{ℕ, zero, suc, ◌+◌, ◌-◌, ◌^◌, ◌<◌, ◌≤◌}
-use mathlib.Core.Bool.{Bool, true, false}
-use mathlib.Core.Path.{◌≡◌, refl}
-use native.Mathlib.Omega.{arith}
-use native.Mathlib.Numerals.{add-one}
-use borrow.Author.Tests.{le-leb, lt-leb, ltb-true, ltb-false}
-use lib.Dec.{ltb}
-use lib.Pow.{pow_mono}
-use Rattle.rules.specs.Pair.{IDS, levels_from, levels}
+use Rattle.std.proofs.Common.{ℕ, zero, suc, ◌≡◌, ◌+◌, ◌-◌, ◌*◌, ◌/◌, ◌^◌, ◌<◌, ◌≤◌, max, Bool, true, false, ltb, refl, arith, pow_mono, pow_pos, pow-suc}
+use borrow.Author.Tests.{ltb-true, ltb-false}
+use Rattle.rules.specs.Pair.{IDS, levels}
+use Rattle.rules.proofs.Soundness.{levels_least}
 
-pub levels-start : (n : ℕ) → levels n ≡ levels_from 16 0 n
+-- a smaller power has a smaller exponent
+below_power : (i j : ℕ) → 2 ^ i < 2 ^ j → i < j
+below_power i j h = go (ltb i j) refl
+  where
+    go : (b : Bool) → ltb i j ≡ b → i < j
+    go true e = ltb-true i j e
+    go false e = absurd (omega (arith, pow_mono (ltb-false i j e)))
+
+-- the exponent of a power of two
+pub exponent_is : (j k : ℕ) → 2 ^ j ≤ 2 ^ k → 2 ^ k < 2 * 2 ^ j → j ≡ k
+exponent_is j k l h = omega (arith, below_power j (suc k) (omega (arith, pow-suc 2 k, pow_pos k)), below_power k (suc j) (omega (arith, pow-suc 2 j)))
+
+levels-zero : levels 0 ≡ 1
 unfolding levels
-levels-start n = refl
+levels-zero = refl
 
-pub levels_on : (i n : ℕ) → i < 16 → 2 ^ i < n → levels_from (16 - i) i n ≡ levels_from (16 - (i + 1)) (i + 1) n
-levels_on i n h l =
-    let e : 16 - i ≡ suc (16 - (i + 1)) = omega arith in
-    rw (e, lt-leb n (2 ^ i) l, add-one i) refl
-
-pub levels_stop : (i n : ℕ) → n ≤ 2 ^ i → levels_from (16 - i) i n ≡ i + 1
-levels_stop i n l = go (16 - i)
-  where
-    go : (d : ℕ) → levels_from d i n ≡ i + 1
-    go zero = omega arith
-    go (suc d) = rw (le-leb n (2 ^ i) l) (omega arith)
-
--- a try that fails is none of the last
-pub below_sixteen : (i n : ℕ) → n ≤ IDS → 2 ^ i < n → i < 16
-below_sixteen i n h l = go (ltb i 16) refl
-  where
-    go : (b : Bool) → ltb i 16 ≡ b → i < 16
-    go true e = ltb-true i 16 e
-    go false e =
-        let p : 2 ^ 16 ≤ 2 ^ i = pow_mono (ltb-false i 16 e) in
-        absurd (omega arith)
-
-pub small_power : (i : ℕ) → i ≤ 16 → 2 ^ i ≤ IDS
-small_power i h = pow_mono h
+pub levels_is : (n k : ℕ) → n ≤ IDS → n ≤ 2 ^ k → 2 ^ k / 2 < max 1 n → levels n ≡ k + 1
+levels_is zero zero r h l = levels-zero
+levels_is zero (suc j) r h l = absurd (omega (arith, pow-suc 2 j, pow_pos j))
+levels_is (suc n) zero r h l =
+    let s = levels_least (suc n) (omega arith, r) in
+    omega (arith, s.0, s.2 0 h)
+levels_is (suc n) (suc j) r h l =
+    let s = levels_least (suc n) (omega arith, r) in
+    let b : j < levels (suc n) - 1 = below_power j (levels (suc n) - 1) (omega (arith, pow-suc 2 j, s.1)) in
+    omega (arith, s.2 (suc j) h)

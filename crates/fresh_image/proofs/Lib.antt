@@ -1,3 +1,3 @@
--- Levels: the search for L. Words: the words of a fresh image. Assumes nothing.
+-- Levels: how many levels n ids have. Words: the words of a fresh image. Assumes nothing.
 pub mod Levels
 pub mod Words

@@ -6,7 +6,6 @@ use Prim.Native.Nat.{ℕ, zero, suc, ◌+◌, ◌-◌, ◌*◌, ◌^◌, ◌≤�
 use mathlib.Core.Path.{◌≡◌, refl, sym, ap, ◌∙◌}
 use mathlib.Core.List.{List, [], ◌∷◌, ◌++◌, append_assoc, append-nil}
 use native.Mathlib.Omega.{arith}
-use native.Mathlib.Numerals.{add-one}
 use native.Mathlib.Nat.{pow-suc}
 use lib.Pow.{pow_mono, pow_pos}
 use lib.ListN.{length, set, drop, replicate, length-append, length-replicate}
@@ -22,9 +21,6 @@ use Rattle.fresh_image.specs.Bounds.{opened}
 use Rattle.lists.specs.Blocks.{zeros_append}
 
 -- ---- the rows
-
-pub opened_more : (xs : List ℕ) (i : ℕ) → opened xs (i + 1) ≡ set (opened xs i) (HEAD + ROW * i) OPEN
-opened_more xs i = rw (add-one i) refl
 
 rows_snoc : (i : ℕ) → row_words (fresh (suc i)) ≡ row_words (fresh i) ++ (OPEN ∷ 0 ∷ 0 ∷ [])
 rows_snoc zero = refl

@@ -17,19 +17,14 @@ pub struct Depth {
     pub size: usize,
 }
 
-// Doubles from 1 on until n is reached: L is one more than the doublings.
+// Half the size is the first power of two that reaches n: L is one more than its exponent.
 pub fn depth_of(n: usize) -> Depth
     requires { n ≤ IDS }
     ensures { (result.levels ≡ levels n) × (result.size ≡ 2 ^ levels n) × (1 ≤ result.levels) × (result.levels ≤ ROWS) × (result.size ≤ 2 ^ ROWS) × (1 ≤ result.size) }
 {
-    let mut i = 0;
-    let mut half = 1;
-    while half < n {
-        half = half + half;
-        i += 1;
-    }
+    let half = n.next_power_of_two();
     Depth {
-        levels: i + 1,
+        levels: half.ilog2() as usize + 1,
         size: half + half,
     }
 }
@@ -48,10 +43,8 @@ pub fn open_bounds(img: &mut [u64], levels: usize)
     requires { elements_from levels ≤ length img.old }
     ensures { img.new ≡ opened img.old levels }
 {
-    let mut level = 0;
-    while level < levels {
+    for level in 0..levels {
         img[HEAD + ROW * level] = Pair::OPEN;
-        level += 1;
     }
 }
 

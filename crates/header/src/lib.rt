@@ -65,25 +65,24 @@ pub fn load(img: &[u64], rows: usize) -> Header
         element_counts: [0u64; Header::ROWS],
         update_counts: [0u64; Header::ROWS],
     };
-    let mut i = 0;
-    while i < rows {
-        h.bounds[i] = img[places::HEAD + places::ROW * i + places::BOUND];
-        h.element_counts[i] = img[places::HEAD + places::ROW * i + places::ELEMENTS];
-        h.update_counts[i] = img[places::HEAD + places::ROW * i + places::UPDATES];
-        i += 1;
+    for i in 0..rows {
+        let row = row_at(img, i);
+        h.bounds[i] = row.bound;
+        h.element_counts[i] = row.elements;
+        h.update_counts[i] = row.updates;
     }
     h
 }
 
 // The three words of one level's row.
-pub fn store_row(img: &mut [u64], i: usize, bound: u64, elements: u64, updates: u64)
+pub fn store_row(img: &mut [u64], i: usize, row: Row)
     requires { HEAD + ROW * i + ROW ≤ length img.old }
-    ensures { img.new ≡ sets img.old (HEAD + ROW * i) (bound ∷ elements ∷ updates ∷ []) }
+    ensures { img.new ≡ sets img.old (HEAD + ROW * i) (row.bound ∷ row.elements ∷ row.updates ∷ []) }
 {
     let at = places::HEAD + places::ROW * i;
-    img[at] = bound;
-    img[at + 1] = elements;
-    img[at + 2] = updates;
+    img[at + places::BOUND] = row.bound;
+    img[at + places::ELEMENTS] = row.elements;
+    img[at + places::UPDATES] = row.updates;
 }
 
 // The header stored back: its words and the rows of the first levels, and no other word.
@@ -91,49 +90,49 @@ pub fn store(img: &mut [u64], h: Header, rows: usize)
     requires { (rows ≤ ROWS) × (HEAD + ROW * rows ≤ length img.old) }
     ensures { img.new ≡ sets img.old 0 (words_upto h rows) }
 {
-    img[0] = h.n;
-    img[1] = h.levels;
-    img[2] = h.waiting;
-    img[3] = h.elements_at;
-    img[4] = h.stack_at;
-    img[5] = h.work_at;
-    let b = h.bounds;
-    let e = h.element_counts;
-    let u = h.update_counts;
-    let mut i = 0;
-    while i < rows {
-        store_row(img, i, b[i], e[i], u[i]);
-        i += 1;
+    img[places::N_AT] = h.n;
+    img[places::LEVELS_AT] = h.levels;
+    img[places::WAITING_AT] = h.waiting;
+    img[places::ELEMENTS_AT] = h.elements_at;
+    img[places::STACK_AT] = h.stack_at;
+    img[places::WORK_AT] = h.work_at;
+    for i in 0..rows {
+        let row = Row {
+            bound: h.bounds[i],
+            elements: h.element_counts[i],
+            updates: h.update_counts[i],
+        };
+        store_row(img, i, row);
     }
 }
 
 // One level's row anew, by value.
-pub fn with_row(h: Header, i: usize, bound: u64, elements: u64, updates: u64) -> Header
+pub fn with_row(h: Header, i: usize, row: Row) -> Header
     requires { i < ROWS }
-    ensures { result ≡ with_row h i bound elements updates }
+    ensures { result ≡ with_row h i row.bound row.elements row.updates }
 {
     let mut g = h;
-    g.bounds[i] = bound;
-    g.element_counts[i] = elements;
-    g.update_counts[i] = updates;
+    g.bounds[i] = row.bound;
+    g.element_counts[i] = row.elements;
+    g.update_counts[i] = row.updates;
     g
 }
 
 // "the header is brought up to date in place": the same row behind the reference.
-pub fn set_row(h: &mut Header, i: usize, bound: u64, elements: u64, updates: u64)
+pub fn set_row(h: &mut Header, i: usize, row: Row)
     requires { i < ROWS }
-    ensures { h.new ≡ with_row h.old i bound elements updates }
+    ensures { h.new ≡ with_row h.old i row.bound row.elements row.updates }
 {
-    *h = with_row(*h, i, bound, elements, updates);
+    *h = with_row(*h, i, row);
 }
 
 // The record is lent to `set_row` for one row and handed back.
-pub fn row_changed(h: Header, i: usize, bound: u64, elements: u64, updates: u64) -> Header
+pub fn row_changed(h: Header, i: usize, row: Row) -> Header
     requires { i < ROWS }
-    ensures { result ≡ with_row h i bound elements updates }
+    ensures { result ≡ with_row h i row.bound row.elements row.updates }
 {
     let mut g = h;
-    set_row(&mut g, i, bound, elements, updates);
+    set_row(&mut g, i, row);
     g
 }
 

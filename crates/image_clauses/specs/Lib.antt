@@ -1,4 +1,4 @@
--- Read in this order. Clauses: soundness on words, clause by clause. Turns: what one turn of a loop over words does to a clause. Marks: the
+-- Read in this order. Clauses: soundness on words, clause by clause. Turns: one test's answer for two statements that say the same. Marks: the
 -- order clause by a table of last entries. Rows: loops over the levels. Passes: one reading of a level, and of all levels. All: every clause.
 pub mod Clauses
 pub mod Turns

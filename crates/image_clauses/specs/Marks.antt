@@ -1,15 +1,15 @@
 -- The order clause by a table that holds, for each id, what its last entry was: 0 nothing yet, 1 a Delete, 2 any other.
 --   mark, marks     an entry's mark; the table after some entries       Comes, Marked    entries that come in order, by the table
 --   Noted           what a reader of entries answers                    Read             what a reader answers that tests P as well
---   Remain          a loop over entries: what is left says the same as all
+--   read_none, read_more, read_fails    a loop over entries
 -- Assumes nothing.
 use Rattle.std.specs.Prelude.{ℕ, ◌/◌, ◌%◌, ◌<◌, Bool, true, false, List, [], ◌∷◌, ◌++◌, ◌↔◌, ◌≡◌, refl, get_or, set}
-use Rattle.std.proofs.Common.{sym, ap, ◌∙◌, arith, ne_eqb}
-use Rattle.rules.specs.Pair.{IDS, OPEN, id_of}
+use Rattle.std.proofs.Common.{◌∙◌, arith, ne_eqb}
+use Rattle.rules.specs.Pair.{OPEN}
 use Rattle.rules.specs.Update.{Update, decrease, delete, sink, id_in}
 use Rattle.layout.specs.Words.{unword}
 use Rattle.image_clauses.specs.Clauses.{Says}
-use Rattle.image_clauses.specs.Turns.{says_yes, says_no}
+use Rattle.image_clauses.specs.Turns.{says_same}
 
 abbrev pub mark : Update → ℕ
 mark (decrease p) = 2
@@ -53,29 +53,22 @@ marked-append (u ∷ us) vs m =
     let i = marked-append us vs (set m (id_in u) (mark u)) in
     (λ h. ((h.0, (i.0 h.1).0), (i.0 h.1).1), λ h. (h.0.0, i.1 (h.0.1, h.1)))
 
--- ---- A LOOP OVER ENTRIES: `all` are read from the table m, and `left` remain, to be read from the table t
+-- ---- A LOOP OVER ENTRIES, from the last one back: what a reader answers on those left, it answers on one more before them
 
-pub record Remain (m t : List ℕ) (all left : List Update) : Type 0 where
-  pub order : Marked m all ↔ Marked t left
-  pub table : marks m all ≡ marks t left
+pub read_none : (P : Type 0) (m : List ℕ) → P → Read P true m m []
+read_none P m p = record { says = (p, tt); table = λ _. refl }
 
-pub remain_start : (m : List ℕ) (all left : List Update) → left ≡ all → Remain m m all left
-remain_start m all left e = record { order = rw e (λ h. h, λ h. h); table = rw e }
-
-pub remain_end : (P : Type 0) (m t : List ℕ) (all left : List Update) → P → left ≡ [] → Remain m t all left → Read P true m t all
-remain_end P m t all left p e r = record { says = (p, r.order.1 (rw e tt)); table = λ _. sym (r.table ∙ rw e) }
-
-module _ (m t t' : List ℕ) (all left : List Update) (u : Update) (us : List Update) (e : left ≡ u ∷ us) (r : Remain m t all left) where
-  pub remain_turn : (b : Bool) → b ≡ true → Noted b t t' (u ∷ []) → Remain m t' all us
-  remain_turn b y n =
-      let q : t' ≡ set t (id_in u) (mark u) = n.table y in
+module _ (Q : Type 0) (m t after : List ℕ) (u : Update) (us : List Update) where
+  pub read_more : Noted true m t (u ∷ []) → (P : Type 0) → Q ↔ P → (r : Bool) → Read P r t after us → Read Q r m after (u ∷ us)
+  read_more n P e r h =
+      let q : t ≡ set m (id_in u) (mark u) = n.table refl in
       record {
-        order = (λ h. rw q (rw e at (r.order.0 h)).1, λ h. r.order.1 (rw e ((says_yes b y n.says).1.0, (rw q at h))));
-        table = r.table ∙ rw (e, q);
+        says = says_same r (λ x. (e.1 x.0, (n.says.1.0, (rw q at x.1))), λ x. (e.0 x.0, rw q x.1.1)) h.says;
+        table = λ z. h.table z ∙ rw q;
       }
 
-  pub remain_fails : (b : Bool) → b ≡ false → Noted b t t' (u ∷ []) → ¬ Marked m all
-  remain_fails b y n h = says_no b y n.says (tt, ((rw e at (r.order.0 h)).0, tt))
+  pub read_fails : Noted false m t (u ∷ []) → Read Q false m after (u ∷ us)
+  read_fails n = refused Q m after (u ∷ us) (λ h. n.says (tt, (h.1.0, tt)))
 
 -- ---- THE ENTRIES OF WORDS, by their kind
 
@@ -88,17 +81,3 @@ module _ (w : ℕ) where
 
   pub unword_sink : ¬ (w / OPEN ≡ 1) → ¬ (w / OPEN ≡ 2) → unword w ≡ sink (w % OPEN)
   unword_sink e f = rw (ne_eqb _ _ e, ne_eqb _ _ f)
-
-  module _ (m after : List ℕ) where
-    pub noted_decrease : w / OPEN ≡ 1 → Noted true m (set m (id_of w) 2) (unword w ∷ [])
-    noted_decrease e = rw (unword_decrease e) (record { says = (tt, (tt, tt)); table = λ _. ap (λ (k : ℕ). set m k 2) (omega arith) })
-
-    pub noted_delete : w / OPEN ≡ 2 → Noted true m (set m (id_of w) 1) (unword w ∷ [])
-    noted_delete e = rw (unword_delete e) (record { says = (tt, (tt, tt)); table = λ _. ap (λ (k : ℕ). set m k 1) (omega arith) })
-
-    pub noted_sink : (r : Bool) → ¬ (w / OPEN ≡ 1) → ¬ (w / OPEN ≡ 2) → Noted r m after (sink w ∷ []) → Noted r m after (unword w ∷ [])
-    noted_sink r e f n =
-        let i : w % OPEN % IDS ≡ id_of w = omega arith in
-        let s : Says r (Unit {0} × Marked m (sink (w % OPEN) ∷ [])) = rw i n.says in
-        let t : marks m (sink (w % OPEN) ∷ []) ≡ marks m (sink w ∷ []) = rw i in
-        rw (unword_sink e f) (record { says = s; table = λ q. n.table q ∙ sym t })

@@ -1,6 +1,6 @@
 -- One reading of a level tests its words and notes its entries; the levels are read from the deepest up. One law for each way out of the code.
 -- Assumes nothing.
-use Rattle.std.specs.Prelude.{ℕ, suc, ◌+◌, ◌-◌, ◌^◌, ◌<◌, ◌≤◌, Bool, true, false, List, ◌++◌, ◌≡◌, refl}
+use Rattle.std.specs.Prelude.{ℕ, suc, ◌+◌, ◌-◌, ◌^◌, ◌≤◌, Bool, true, false, List, ◌++◌, ◌≡◌, refl}
 use Rattle.std.proofs.Common.{sym, ap, ◌∙◌, arith}
 use Rattle.plain.specs.Lists.{Every}
 use Rattle.lists.specs.Put.{part}
@@ -8,10 +8,9 @@ use Rattle.rules.specs.Update.{Update}
 use Rattle.rules.specs.Heap.{stores, reading}
 use Rattle.layout.specs.Words.{unwords}
 use Rattle.layout.specs.Image.{elements_from, stack_from}
-use Rattle.image_clauses.specs.Clauses.{Says, AllZero, Pairs, UpdateOk, LevelWords, LevelsOk, bound_word, element_count, update_count, floor_of, top_kind, area_from, updates_under, levels_of}
+use Rattle.image_clauses.specs.Clauses.{AllZero, Pairs, UpdateOk, LevelWords, LevelsOk, bound_word, element_count, update_count, floor_of, top_kind, area_from, updates_under, levels_of}
 use Rattle.image_clauses.specs.Marks.{marks, Marked, Read, refused, marks-append, marked-append}
 use Rattle.image_clauses.specs.Rows.{levels_of_turn, levels_turn, levels_from_all, marked_from_all}
-use Rattle.image_clauses.specs.Turns.{says_yes, says_no}
 
 -- the entries of level i, its updates standing from word s on
 abbrev pub level_entries : List ℕ → ℕ → ℕ → ℕ → List Update
@@ -44,9 +43,6 @@ module _ (ws : List ℕ) (n L i s size low top : ℕ) (e : size ≡ 2 ^ i) (f : 
   level_is : element_count ws i ≤ size → Padding → Elements → Updates → LevelWords ws n L i s
   level_is r p q u = record { room = omega arith; padding = (rw e at p); pairs = (rw (e, f) at q); updates = (rw (f, g) at u) }
 
-  level_padding : LevelWords ws n L i s → Padding
-  level_padding l = rw e l.padding
-
   level_pairs : LevelWords ws n L i s → Elements
   level_pairs l = rw (e, f) l.pairs
 
@@ -54,29 +50,22 @@ module _ (ws : List ℕ) (n L i s size low top : ℕ) (e : size ≡ 2 ^ i) (f : 
   level_updates l = rw (f, g) l.updates
 
   module _ (m after : List ℕ) where
-    pub room_fails : size < element_count ws i → Read (LevelWords ws n L i s) false m after (level_entries ws L i s)
-    room_fails h = refused (LevelWords ws n L i s) m after (level_entries ws L i s) (λ l. omega (arith, l.0.room))
-
-    pub padding_fails : (z : Bool) → z ≡ false → Says z Padding → Read (LevelWords ws n L i s) false m after (level_entries ws L i s)
-    padding_fails z q h = refused (LevelWords ws n L i s) m after (level_entries ws L i s) (λ l. says_no z q h (level_padding l.0))
-
-    pub pairs_fail : (t : List ℕ) (b : Bool) → b ≡ false → Read Elements b m t entries → Read (LevelWords ws n L i s) false m after (level_entries ws L i s)
-    pairs_fail t b y p =
+    pub pairs_fail : (t : List ℕ) → Read Elements false m t entries → Read (LevelWords ws n L i s) false m after (level_entries ws L i s)
+    pairs_fail t p =
         refused (LevelWords ws n L i s) m after (level_entries ws L i s) (λ l.
-        says_no b y p.says (level_pairs l.0, ((marked-append entries later m).0 (rw entries_are l.1)).0))
+        p.says (level_pairs l.0, ((marked-append entries later m).0 (rw entries_are l.1)).0))
 
-    pub level_read : (t : List ℕ) (b : Bool) → element_count ws i ≤ size → Padding → b ≡ true → Read Elements b m t entries
+    pub level_read : (t : List ℕ) → element_count ws i ≤ size → Padding → Read Elements true m t entries
         → (u : Bool) → Read Updates u t after later → Read (LevelWords ws n L i s) u m after (level_entries ws L i s)
-    level_read t b r z y p true v =
-        let q : t ≡ marks m entries = p.table y in
-        let d = says_yes b y p.says in
+    level_read t r z p true v =
+        let q : t ≡ marks m entries = p.table refl in
         let o : Marked (marks m entries) later = rw q at v.says.1 in
         record {
-          says = (level_is r z d.0 v.says.0, rw entries_are at ((marked-append entries later m).1 (d.1, o)));
+          says = (level_is r z p.says.0 v.says.0, rw entries_are at ((marked-append entries later m).1 (p.says.1, o)));
           table = λ _. v.table refl ∙ (rw q (sym (marks-append entries later m))) ∙ ap (λ (us : List Update). marks m us) entries_are;
         }
-    level_read t b r z y p false v =
-        let q : t ≡ marks m entries = p.table y in
+    level_read t r z p false v =
+        let q : t ≡ marks m entries = p.table refl in
         refused (LevelWords ws n L i s) m after (level_entries ws L i s) (λ l.
         v.says (level_updates l.0, (rw q ((marked-append entries later m).0 (rw entries_are l.1)).1)))
 
@@ -90,21 +79,21 @@ module _ (m ws : List ℕ) (n L i k at : ℕ) (e : k ≡ suc i) (h : k ≤ L) (e
   reading_is = ap reading (levels_of_turn ws L i k e h) ∙ rw es
 
   module _ (t t' : List ℕ) (table : t ≡ marks m deeper) where
-    pub level_passes : Marked m deeper → LevelsOk ws n L k (L - k) → (b : Bool) → b ≡ true → Read (LevelWords ws n L i at) b t t' (level_entries ws L i at)
+    pub level_passes : Marked m deeper → LevelsOk ws n L k (L - k) → Read (LevelWords ws n L i at) true t t' (level_entries ws L i at)
         → LevelsOk ws n L i (L - i) × (t' ≡ marks m (reading (levels_of ws L i (L - i)))) × Marked m (reading (levels_of ws L i (L - i)))
-    level_passes o l b y r =
-        let d = says_yes b y r.says in
+    level_passes o l r =
+        let d = r.says in
         let a : Marked (marks m deeper) (level_entries ws L i at) = rw table at d.1 in
-        let c : t' ≡ marks (marks m deeper) (level_entries ws L i at) = r.table y ∙ rw table in (
+        let c : t' ≡ marks (marks m deeper) (level_entries ws L i at) = r.table refl ∙ rw table in (
           (levels_turn ws L i k e h n).1 ((rw es at d.0), l),
           c ∙ sym (ap (λ (us : List Update). marks m us) reading_is ∙ marks-append deeper (level_entries ws L i at) m),
           rw reading_is ((marked-append deeper (level_entries ws L i at) m).1 (o, a)),
         )
 
-    pub level_refuses : (b : Bool) → b ≡ false → Read (LevelWords ws n L i at) b t t' (level_entries ws L i at)
+    pub level_refuses : Read (LevelWords ws n L i at) false t t' (level_entries ws L i at)
         → ¬ (LevelsOk ws n L 0 L × Marked m (reading (levels_of ws L 0 L)))
-    level_refuses b y r a =
+    level_refuses r a =
         let w = ((levels_turn ws L i k e h n).0 (levels_from_all ws n L i (L - i) L (omega arith) a.0)).0 in
         let o = marked_from_all m ws L i (L - i) L (omega arith) a.1 in
         let p = ((marked-append deeper (level_entries ws L i at) m).0 (rw reading_is at o)).1 in
-        says_no b y r.says ((rw es w), (rw table p))
+        r.says ((rw es w), (rw table p))

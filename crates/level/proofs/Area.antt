@@ -38,7 +38,7 @@ module _ (xs : List ℕ) (area m y k : ℕ) (fits : area + m ≤ length xs) (a :
   front : k ≤ m → length (take k E) ≡ k
   front h = length-take-le k E (omega (arith, size))
 
-  pub upto : k ≤ m
+  upto : k ≤ m
   upto = omega (arith, place_le y E, size)
 
   module _ (f : find y E ≡ absent) (p : ℕ) where
@@ -54,7 +54,7 @@ module _ (xs : List ℕ) (area m y k : ℕ) (fits : area + m ≤ length xs) (a :
         rw (pad_none m (put y (held p) E) (omega (arith, length_entered)), entered, put-kept (p ∷ drop k E) xs area k m upto fits, drop-part xs area k m, e)
 
   module _ (q : ℕ) (f : find y E ≡ held q) where
-    pub inside : k < m
+    inside : k < m
     inside = omega (arith, here_inside y E a q f, size)
 
     module _ (p : ℕ) where

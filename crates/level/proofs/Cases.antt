@@ -2,28 +2,25 @@
 --   step-..                                          the step of each kind
 --   Looked                                           what the code has looked up of a pair
 --   delete-.., decrease-.., sink-..                  the id is here, is gone, enters; the update goes past
---   word_decrease, word_delete, word_sink            an update word by its kind
 -- Assumes nothing.
-use Prim.Native.Nat.{ℕ, ◌+◌, ◌-◌, ◌/◌, ◌%◌, ◌<◌, ◌≤◌, min}
+use Prim.Native.Nat.{ℕ, ◌+◌, ◌-◌, ◌<◌, ◌≤◌, min}
 use mathlib.Core.Path.{◌≡◌, refl, sym, ◌∙◌}
-use mathlib.Core.Logic.{◌≢◌}
 use mathlib.Core.List.{List, [], ◌∷◌, ◌++◌}
 use native.Mathlib.Omega.{arith}
-use borrow.Author.Tests.{le-leb, lt-leb, ne_eqb}
+use borrow.Author.Tests.{le-leb, lt-leb}
 use lib.ListN.{length, set}
 use lib.Seq.{sets}
 use Rattle.plain.specs.Lists.{tally, pad}
 use Rattle.lists.specs.Put.{part, set-put-before}
-use Rattle.rules.specs.Pair.{OPEN, id_of}
-use Rattle.rules.specs.Update.{Held, absent, held, At, Update, decrease, delete, sink, waits}
+use Rattle.rules.specs.Pair.{id_of}
+use Rattle.rules.specs.Update.{absent, held, Update, decrease, delete, sink, waits}
 use Rattle.rules.specs.Sound.{Asc}
 use Rattle.rules.specs.Step.{find, put}
-use Rattle.rules.proofs.Descent.{at_find}
-use Rattle.layout.specs.Words.{word, unword}
+use Rattle.layout.specs.Words.{word}
 use Rattle.level.specs.declared.Counts.{Counts}
-use Rattle.level.specs.Place.{place, pair_or_open}
+use Rattle.level.specs.Place.{place}
 use Rattle.level.specs.Step.{step, Ready, Took}
-use Rattle.level.proofs.Area.{upto, inside, length_entered, words_entered, length_replaced, words_replaced, length_dropped, words_dropped, length_same, words_same}
+use Rattle.level.proofs.Area.{length_entered, words_entered, length_replaced, words_replaced, length_dropped, words_dropped, length_same, words_same}
 
 abbrev counts : ℕ → ℕ → ℕ → Counts
 counts e p x = record { elements = e; passed = p; ended = x }
@@ -60,16 +57,6 @@ pub took_any : {r : Counts} {xs ys : List ℕ} {area m to p : ℕ} (b : ℕ) →
 unfolding step
 took_any b t = record { elements = t.elements; passed = t.passed; ended = t.ended; words = t.words }
 
--- ---- what is found, as a number
-
-is_held : (h : Held) (q : ℕ) → q ≡ pair_or_open h → q < OPEN → h ≡ held q
-is_held absent q e l = absurd (omega arith)
-is_held (held p) q e l = rw e refl
-
-is_absent : (h : Held) (q : ℕ) → At (λ p. p < OPEN) h → q ≡ pair_or_open h → OPEN ≤ q → h ≡ absent
-is_absent absent q s e l = refl
-is_absent (held p) q s e l = absurd (omega arith)
-
 -- ---- the words of each case
 
 module _ {xs : List ℕ} {area m to p : ℕ} (ready : Ready xs area m to p) where
@@ -98,18 +85,16 @@ module _ {xs : List ℕ} {area m to p : ℕ} (ready : Ready xs area m to p) wher
   pub sink_past : {w : ℕ} (b : ℕ) → b < p → w ≡ word (sink p) → Took (counts m 1 0) xs (set xs to w) area m to b (sink p)
   sink_past b l i = took_past b _ (sink p) (step_past b (part xs area m) p l) i
 
--- what is looked up of p: its id y, the place k of that, and its element q there, or the open bound
-pub record Looked (xs : List ℕ) (area m to p y k q : ℕ) : Type 0 where
+-- what is looked up of p: its id y, and the place k of that
+pub record Looked (xs : List ℕ) (area m to p y k : ℕ) : Type 0 where
   pub ready : Ready xs area m to p
   pub own : y ≡ id_of p
   pub at : k ≡ place y (part xs area m)
-  pub is : q ≡ pair_or_open (find y (part xs area m))
 
-pub looked : {xs : List ℕ} {area m to p y k q : ℕ} → Ready xs area m to p → y ≡ id_of p → k ≡ place y (part xs area m) → q ≡ pair_or_open (find y (part xs area m))
-    → Looked xs area m to p y k q
-looked r o a i = record { ready = r; own = o; at = a; is = i }
+pub looked : {xs : List ℕ} {area m to p y k : ℕ} → Ready xs area m to p → y ≡ id_of p → k ≡ place y (part xs area m) → Looked xs area m to p y k
+looked r o a = record { ready = r; own = o; at = a }
 
-module _ {xs : List ℕ} {area m to p y k q : ℕ} (l : Looked xs area m to p y k q) where
+module _ {xs : List ℕ} {area m to p y k : ℕ} (l : Looked xs area m to p y k) where
   abbrev E : List ℕ
   E = part xs area m
 
@@ -125,16 +110,10 @@ module _ {xs : List ℕ} {area m to p y k q : ℕ} (l : Looked xs area m to p y 
   at : k ≡ place x E
   at = rw l.own at l.at
 
-  is : q ≡ pair_or_open (find x E)
-  is = rw l.own at l.is
-
   -- the id is here
-  module _ (h : q < OPEN) where
+  module _ {q : ℕ} (h : held q ≡ find y E) where
     here : find x E ≡ held q
-    here = is_held (find x E) q is h
-
-    pub place_here : k < m
-    place_here = inside xs area m x k fits asc at q here
+    here = rw (← l.own) (sym h)
 
     pub delete_here : {w : ℕ} {zs : List ℕ} → zs ≡ sets xs (area + k) (part xs (area + k + 1) (area + m - (area + k + 1)) ++ (0 ∷ [])) → w ≡ word (delete p)
         → Took (counts (m - 1) 1 0) xs (set zs to w) area m to 0 (delete p)
@@ -153,12 +132,12 @@ module _ {xs : List ℕ} {area m to p y k q : ℕ} (l : Looked xs area m to p y 
         (words_replaced xs area m x k fits asc at q here p)
 
   -- the id is not here
-  module _ (h : OPEN ≤ q) where
+  module _ (h : absent ≡ find y E) where
     gone : find x E ≡ absent
-    gone = is_absent (find x E) q (at_find (λ p. p < OPEN) x E l.ready.held.small) is h
+    gone = rw (← l.own) (sym h)
 
-    pub place_gone : (k ≤ m) × (area + m < length xs)
-    place_gone = (upto xs area m x k fits asc at, l.ready.room gone)
+    pub room_gone : area + m < length xs
+    room_gone = l.ready.room gone
 
     pub delete_gone : {w : ℕ} → w ≡ word (delete p) → Took (counts m 1 0) xs (set xs to w) area m to 0 (delete p)
     delete_gone i = took_past l.ready 0 _ (delete p) (rw gone (step_delete 0 E p)) i
@@ -176,15 +155,3 @@ module _ {xs : List ℕ} {area m to p y k q : ℕ} (l : Looked xs area m to p y 
       sink_enters =
           took_none l.ready b (m + 1) 0 (sink p) (put x (held p) E) zs (step_sink b E p g) (sym (length_entered xs area m x k fits asc at gone p)) refl
           (z ∙ words_entered xs area m x k fits asc at gone p)
-
--- ---- an update word by its kind
-
-module _ (w : ℕ) {kind p : ℕ} (k : kind ≡ w / OPEN) (e : p ≡ w % OPEN) where
-  pub word_decrease : kind ≡ 1 → unword w ≡ decrease p
-  word_decrease h = rw (← k, ← e, h) refl
-
-  pub word_delete : kind ≡ 2 → unword w ≡ delete p
-  word_delete h = rw (← k, ← e, h) refl
-
-  pub word_sink : kind ≢ 1 → kind ≢ 2 → unword w ≡ sink p
-  word_sink g h = rw (← k, ← e, ne_eqb kind 1 g, ne_eqb kind 2 h) refl

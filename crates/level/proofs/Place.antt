@@ -4,12 +4,11 @@
 --   area-..                                 the same of the words from `area` on, as the code reads them
 --   search_turn                             a turn of the search
 -- Assumes nothing.
-use Prim.Native.Nat.{ℕ, zero, suc, ◌+◌, ◌-◌, ◌*◌, ◌/◌, ◌%◌, ◌<◌, ◌≤◌}
+use Prim.Native.Nat.{ℕ, zero, suc, ◌+◌, ◌-◌, ◌/◌, ◌%◌, ◌<◌, ◌≤◌}
 use mathlib.Core.Bool.{Bool, true, false}
 use mathlib.Core.Path.{◌≡◌, refl, sym, ap, ◌∙◌}
 use mathlib.Core.Logic.{◌≢◌}
 use mathlib.Core.List.{List, [], ◌∷◌, ◌++◌}
-use native.Mathlib.Nat.{mul-one, mul-zero}
 use native.Mathlib.Numerals.{add-one}
 use native.Mathlib.Omega.{arith}
 use borrow.Author.Tests.{ltb-true, ltb-false, eqb-true, eqb-false, lt-ltb, le-ltb, ne_eqb}
@@ -19,7 +18,7 @@ use lib.Seq.{take_at, drop_at, get_or_at, drop-drop}
 use Rattle.plain.specs.Lists.{keep, sift}
 use Rattle.lists.specs.Put.{part, length-part}
 use Rattle.lists.specs.Part.{get_or-part}
-use Rattle.rules.specs.Pair.{IDS, id_of}
+use Rattle.rules.specs.Pair.{id_of}
 use Rattle.rules.specs.Update.{Held, absent, held}
 use Rattle.rules.specs.Sound.{Asc}
 use Rattle.rules.specs.Step.{find, cells, put}
@@ -210,26 +209,3 @@ module _ (xs : List ℕ) (area m y : ℕ) (fits : area + m ≤ length xs) (a : A
           let q : r ≡ 0 = s.from (rw same l) in
           let p = area_upto xs area m y fits a (low + half - 1) (omega arith) l in
           (omega arith, omega arith, omega (arith, p))
-
--- ---- `half` where x is below y, by numbers
-
-module _ (x y half one : ℕ) (low : x < IDS) (high : y < IDS) (e : one ≡ (IDS - 1 + y - x) / IDS) where
-  step_below : x < y → half * one ≡ half
-  step_below h =
-      let q : one ≡ 1 = omega arith in
-      rw (q, mul-one half) refl
-
-  step_from : y ≤ x → half * one ≡ 0
-  step_from h =
-      let q : one ≡ 0 = omega arith in
-      rw (q, mul-zero half) refl
-
-  pub steps_over : StepsOver (half * one) x y half
-  steps_over = record { below = step_below; from = step_from }
-
-  pub steps_most : half * one ≤ half
-  steps_most = go (ltb x y) refl
-    where
-      go : (b : Bool) → ltb x y ≡ b → half * one ≤ half
-      go true q = omega (arith, step_below (ltb-true x y q))
-      go false q = omega (arith, step_from (ltb-false x y q))

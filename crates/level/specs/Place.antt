@@ -1,8 +1,8 @@
 -- The place of an id among elements in ascending id, and what stands there.
 -- Assumes nothing.
-use Rattle.std.specs.Prelude.{ℕ, ◌<◌, ◌≤◌, ◌≡◌, List, ltb, length}
+use Rattle.std.specs.Prelude.{ℕ, ◌<◌, ◌≤◌, ◌≡◌, List, Option, None, Some, ltb, length}
 use Rattle.plain.specs.Lists.{sift}
-use Rattle.rules.specs.Pair.{OPEN, id_of}
+use Rattle.rules.specs.Pair.{id_of}
 use Rattle.rules.specs.Update.{Held, absent, held}
 
 -- how many elements stand before the id y
@@ -14,7 +14,7 @@ pub record StepsOver (r x y half : ℕ) : Type 0 where
   pub below : x < y → r ≡ half
   pub from : y ≤ x → r ≡ 0
 
--- what is held, as one number: "The open bound 2^56" is above every pair, so it stands for none
-abbrev pub pair_or_open : Held → ℕ
-pair_or_open absent = OPEN
-pair_or_open (held p) = p
+-- what an answer of the code holds
+abbrev pub held_in : Option ℕ → Held
+held_in None = absent
+held_in (Some p) = held p

@@ -2,14 +2,14 @@
 // over the updates from their first word on, since one update passes on at most one word.
 #![tactic(auto)]
 
-ghost use Rattle.std.specs.Prelude.{◌≡◌, ◌+◌, ◌%◌, ◌<◌, ◌≤◌, length};
+ghost use Rattle.std.specs.Prelude.{◌≡◌, ◌+◌, ◌<◌, ◌≤◌, length, IfSome};
 ghost use Rattle.lists.specs.Put.{part};
-ghost use Rattle.rules.specs.Pair.{IDS, OPEN};
-ghost use Rattle.rules.specs.Update.{decrease, delete, sink};
+ghost use Rattle.rules.specs.Pair.{IDS};
+ghost use Rattle.rules.specs.Update.{decrease, delete, sink, pair_in};
 ghost use Rattle.rules.specs.Sound.{Asc};
 ghost use Rattle.rules.specs.Step.{find};
-ghost use Rattle.layout.specs.Words.{unword};
-ghost use Rattle.level.specs.Place.{place, StepsOver, pair_or_open};
+ghost use Rattle.pair.specs.Update.{update_of};
+ghost use Rattle.level.specs.Place.{place, StepsOver, held_in};
 ghost use Rattle.level.specs.Step.{Ready, Took};
 ghost use Rattle.level.specs.Run.{Desk, TookAll};
 
@@ -24,6 +24,7 @@ pub struct Counts {
 }
 
 // `half` where x is below y, and else 0: by numbers alone, so that a search has no branch to foresee.
+// Kept: the compiler makes a branch of `half * usize::from(x < y)`; with it the calls of a grid run took 1.32 of the independent queue's time, so 1.16.
 fn step_over(x: u64, y: u64, half: usize) -> usize
     requires { (x < IDS) × (y < IDS) }
     ensures { StepsOver result x y half }
@@ -34,9 +35,11 @@ fn step_over(x: u64, y: u64, half: usize) -> usize
 
 // The place of the id y among the m elements from `area` on: how many stand before it. It is no less than `low` and at most `left` more, and
 // what is left halves from turn to turn.
+// Kept: the page asks for the form by name, "entries inside a level are searched by a loop left by label".
+#[tactic(auto, using(crate::proofs::Place::area_place_le, crate::proofs::Place::search_turn))]
 fn find_place(img: &[u64], area: usize, m: usize, y: u64) -> usize
     requires { (y < IDS) × (area + m ≤ length img.now) × Asc 0 (part img.now area m) }
-    ensures { result ≡ place y (part img.now area m) }
+    ensures { (result ≡ place y (part img.now area m)) × (result ≤ m) }
 {
     let mut low = 0;
     let mut left = m;
@@ -44,50 +47,44 @@ fn find_place(img: &[u64], area: usize, m: usize, y: u64) -> usize
         if left == 0 {
             break 'search;
         }
-        let half = left / 2 + left % 2;
-        let x = Pair::id(img[area + low + half - 1]);
+        let half = left.div_ceil(2);
+        let x = Pair(img[area + low + half - 1]).id();
         low += step_over(x, y, half);
         left /= 2;
     }
     low
 }
 
-// The element of the id y, whose place is k, or the open bound where there is none.
-fn pair_at(img: &[u64], area: usize, m: usize, k: usize, y: u64) -> u64
+// The element of the id y, whose place is k, if there is one.
+#[tactic(auto, using(crate::proofs::Place::area_end, crate::proofs::Place::area_miss, crate::proofs::Place::area_found))]
+fn pair_at(img: &[u64], area: usize, m: usize, k: usize, y: u64) -> Option<u64>
     requires { (area + m ≤ length img.now) × Asc 0 (part img.now area m) × (k ≡ place y (part img.now area m)) }
-    ensures { result ≡ pair_or_open (find y (part img.now area m)) }
+    ensures { (held_in result ≡ find y (part img.now area m)) × IfSome result (λ q. k < m) }
 {
-    if k >= m {
-        return Pair::OPEN;
+    if k < m && Pair(img[area + k]).id() == y {
+        Some(img[area + k])
+    } else {
+        None
     }
-    let q = img[area + k];
-    if Pair::id(q) != y {
-        return Pair::OPEN;
-    }
-    q
 }
 
 // "Delete: drop the id here if present; pass the Delete" on. It goes on as it came, whatever its key.
-fn take_delete(img: &mut [u64], area: usize, m: usize, to: usize, p: u64) -> Counts
-    requires { Ready img.old area m to p }
-    ensures { Took result img.old img.new area m to 0 (delete p) }
+fn take_delete(img: &mut [u64], area: usize, m: usize, to: usize, p: Pair) -> Counts
+    requires { Ready img.old area m to p.0 }
+    ensures { Took result img.old img.new area m to 0 (delete p.0) }
 {
-    let y = Pair::id(p);
+    let y = p.id();
     let k = find_place(img, area, m, y);
-    let q = pair_at(img, area, m, k, y);
-    if q < Pair::OPEN {
-        words_moved::close_gap(img, area + k, area + m);
-        img[to] = Update::DELETE * Pair::OPEN + p;
-        let elements = m - 1;
-        return Counts {
-            elements,
-            passed: 1,
-            ended: 0,
-        };
-    }
-    img[to] = Update::DELETE * Pair::OPEN + p;
+    let elements = match pair_at(img, area, m, k, y) {
+        Some(_) => {
+            words_moved::close_gap(img, area + k, area + m);
+            m - 1
+        }
+        None => m,
+    };
+    img[to] = Update::Delete(p).word();
     Counts {
-        elements: m,
+        elements,
         passed: 1,
         ended: 0,
     }
@@ -95,65 +92,66 @@ fn take_delete(img: &mut [u64], area: usize, m: usize, to: usize, p: u64) -> Cou
 
 // "Decrease: if the id is here, keep the smaller cost and end it. If not here and the pair is at most the bound, enter it and pass on a Delete of
 // that id. Else pass the Decrease on."
-fn take_decrease(img: &mut [u64], area: usize, m: usize, to: usize, p: u64, bound: u64) -> Counts
-    requires { Ready img.old area m to p }
-    ensures { Took result img.old img.new area m to bound (decrease p) }
+fn take_decrease(img: &mut [u64], area: usize, m: usize, to: usize, p: Pair, bound: u64) -> Counts
+    requires { Ready img.old area m to p.0 }
+    ensures { Took result img.old img.new area m to bound (decrease p.0) }
 {
-    let y = Pair::id(p);
+    let y = p.id();
     let k = find_place(img, area, m, y);
-    let q = pair_at(img, area, m, k, y);
-    if q < Pair::OPEN {
-        img[area + k] = Pair::lesser(q, p);
-        return Counts {
-            elements: m,
-            passed: 0,
-            ended: 1,
-        };
-    }
-    if p <= bound {
-        words_moved::open_gap(img, area + k, area + m, p);
-        img[to] = Update::delete(y);
-        let elements = m + 1;
-        return Counts {
-            elements,
-            passed: 1,
-            ended: 0,
-        };
-    }
-    img[to] = Update::decrease(p);
-    Counts {
-        elements: m,
-        passed: 1,
-        ended: 0,
+    match pair_at(img, area, m, k, y) {
+        Some(q) => {
+            img[area + k] = q.min(p.0);
+            Counts {
+                elements: m,
+                passed: 0,
+                ended: 1,
+            }
+        }
+        None if p.0 <= bound => {
+            words_moved::open_gap(img, area + k, area + m, p.0);
+            img[to] = Update::Delete(Pair(y)).word();
+            Counts {
+                elements: m + 1,
+                passed: 1,
+                ended: 0,
+            }
+        }
+        None => {
+            img[to] = Update::Decrease(p).word();
+            Counts {
+                elements: m,
+                passed: 1,
+                ended: 0,
+            }
+        }
     }
 }
 
 // "Sink: if at most the bound, enter it; else pass it on."
-fn take_sink(img: &mut [u64], area: usize, m: usize, to: usize, p: u64, bound: u64) -> Counts
-    requires { Ready img.old area m to p }
-    ensures { Took result img.old img.new area m to bound (sink p) }
+fn take_sink(img: &mut [u64], area: usize, m: usize, to: usize, p: Pair, bound: u64) -> Counts
+    requires { Ready img.old area m to p.0 }
+    ensures { Took result img.old img.new area m to bound (sink p.0) }
 {
-    if bound < p {
-        img[to] = Update::sink(p);
+    if bound < p.0 {
+        img[to] = Update::Sink(p).word();
         return Counts {
             elements: m,
             passed: 1,
             ended: 0,
         };
     }
-    let y = Pair::id(p);
+    let y = p.id();
     let k = find_place(img, area, m, y);
-    let q = pair_at(img, area, m, k, y);
-    if q < Pair::OPEN {
-        img[area + k] = p;
-        return Counts {
-            elements: m,
-            passed: 0,
-            ended: 0,
-        };
-    }
-    words_moved::open_gap(img, area + k, area + m, p);
-    let elements = m + 1;
+    let elements = match pair_at(img, area, m, k, y) {
+        Some(_) => {
+            img[area + k] = p.0;
+            m
+        }
+        None => {
+            words_moved::open_gap(img, area + k, area + m, p.0);
+            m + 1
+        }
+    };
     Counts {
         elements,
         passed: 0,
@@ -161,24 +159,22 @@ fn take_sink(img: &mut [u64], area: usize, m: usize, to: usize, p: u64, bound: u
     }
 }
 
-// One update word w: "kind 1 Decrease, 2 Delete (key 0), 3 Sink".
-fn take_one(img: &mut [u64], area: usize, m: usize, to: usize, w: u64, bound: u64) -> Counts
-    requires { Ready img.old area m to (w % OPEN) }
-    ensures { Took result img.old img.new area m to bound (unword w) }
+// One update: "kind 1 Decrease, 2 Delete (key 0), 3 Sink".
+// Kept: no trait over this and `level_table`: between updates the words are elements by place here, a word for each id there (`Took`, `TookWord`).
+fn take_one(img: &mut [u64], area: usize, m: usize, to: usize, u: Update, bound: u64) -> Counts
+    requires { Ready img.old area m to (pair_in (update_of u)) }
+    ensures { Took result img.old img.new area m to bound (update_of u) }
 {
-    let p = Update::pair_of(w);
-    let kind = Update::kind(w);
-    if kind == Update::DECREASE {
-        return take_decrease(img, area, m, to, p, bound);
+    match u {
+        Update::Decrease(p) => take_decrease(img, area, m, to, p, bound),
+        Update::Delete(p) => take_delete(img, area, m, to, p),
+        Update::Sink(p) => take_sink(img, area, m, to, p, bound),
     }
-    if kind == Update::DELETE {
-        return take_delete(img, area, m, to, p);
-    }
-    take_sink(img, area, m, to, p, bound)
 }
 
 // "each level takes its updates in order": the `count` update words at `at`. Those that it passes on are written back there from the front, and
 // the words that they free are zero. Its m elements stand at `area`, where there is room for n.
+// Kept: seven parameters and no struct of them, since the signature is public, and `Desk` and `TookAll` take each by itself.
 pub fn take_updates(
     img: &mut [u64],
     area: usize,
@@ -194,14 +190,12 @@ pub fn take_updates(
     let mut elements = m;
     let mut passed = 0;
     let mut ended = 0;
-    let mut j = 0;
-    while j < count {
-        let w = img[at + j];
-        let took = take_one(img, area, elements, at + passed, w, bound);
+    for j in 0..count {
+        let u = Update::from(img[at + j]);
+        let took = take_one(img, area, elements, at + passed, u, bound);
         elements = took.elements;
         passed += took.passed;
         ended += took.ended;
-        j += 1;
     }
     words_moved::clear(img, at + passed, count - passed);
     Counts {

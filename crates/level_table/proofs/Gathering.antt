@@ -1,5 +1,5 @@
 -- The table becomes the elements, from the front on: after j words, their pairs stand in front, with zeros behind them up to j.
---   gather_none, gather-some   one word        gather_turn   a turn        gather_few   there is room
+--   GathersOne   one word        gather_past, gather_on   a turn        gather_few   there is room
 -- Assumes nothing.
 use Prim.Native.Nat.{ℕ, zero, suc, ◌+◌, ◌-◌, ◌<◌, ◌≤◌}
 use mathlib.Core.Path.{◌≡◌, refl, sym, ap, ◌∙◌}
@@ -14,16 +14,21 @@ use Rattle.rules.specs.Step.{cells}
 use Rattle.layout.proofs.Image.{length-pad}
 use Rattle.tidy_parts.specs.Marks.{uncode, squeezed}
 use Rattle.tidy_parts.proofs.Squeezing.{squeeze_few, squeezed_snoc}
-use Rattle.level_table.specs.Table.{GathersOne, Gathers}
+use Rattle.level_table.specs.Table.{Gathers}
 
 -- ---- one word
 
-pub gather_none : (xs : List ℕ) (from to : ℕ) → get_or xs from 0 ≡ 0 → GathersOne 0 xs xs from to
+-- the word at `from` is zero, and then the pair that it held, if it held one, is at `to`; r is how many it held
+record GathersOne (r : ℕ) (xs ys : List ℕ) (from to : ℕ) : Type 0 where
+  pub number : r ≡ length (cells (uncode (get_or xs from 0)))
+  pub words : ys ≡ sets (set xs from 0) to (cells (uncode (get_or xs from 0)))
+
+gather_none : (xs : List ℕ) (from to : ℕ) → get_or xs from 0 ≡ 0 → GathersOne 0 xs xs from to
 gather_none xs from to e =
     let s : xs ≡ set xs from 0 = sym (ap (set xs from) (sym e) ∙ set-get_or xs from 0) in
     record { number = rw e refl; words = rw e s }
 
-pub gather-some : (xs : List ℕ) (from to w : ℕ) → w ≡ get_or xs from 0 → 0 < w → GathersOne 1 xs (set (set xs from 0) to (w - 1)) from to
+gather-some : (xs : List ℕ) (from to w : ℕ) → w ≡ get_or xs from 0 → 0 < w → GathersOne 1 xs (set (set xs from 0) to (w - 1)) from to
 gather-some xs from to zero e h = absurd (omega arith)
 gather-some xs from to (suc p) e h =
     let m : suc p - 1 ≡ p = omega arith in
@@ -40,7 +45,7 @@ zeros_over (held p) xs i (suc t) l =
     let R : List ℕ = replicate t 0 in
     rw e (sym (set-put-before R (set xs i 0) (suc i) i p (omega arith)) ∙ ap (λ (x : List ℕ). sets x (suc i) R) (set-set xs i 0 p))
 
-pub gather_few : (xs : List ℕ) (area j : ℕ) → area + j ≤ length xs → length (squeezed (part xs area j)) ≤ j
+gather_few : (xs : List ℕ) (area j : ℕ) → area + j ≤ length xs → length (squeezed (part xs area j)) ≤ j
 gather_few xs area j g = squeeze_few xs (sets xs 0 (squeezed (part xs area j))) area j 0 (length (squeezed (part xs area j))) (record { number = refl; words = refl }) g
 
 module _ {xs ys : List ℕ} {area j k : ℕ} (s : Gathers k xs ys area j) (g : area + j < length xs) where
@@ -65,7 +70,7 @@ module _ {xs ys : List ℕ} {area j k : ℕ} (s : Gathers k xs ys area j) (g : a
       ∙ ap (sets xs area) z
       ∙ put-append S (replicate (j + 1 - length S) 0) xs area
 
-  pub gather_turn : {zs : List ℕ} {r : ℕ} → GathersOne r ys zs (area + j) (area + k) → Gathers (k + r) xs zs area (j + 1)
+  gather_turn : {zs : List ℕ} {r : ℕ} → GathersOne r ys zs (area + j) (area + k) → Gathers (k + r) xs zs area (j + 1)
   gather_turn o =
       let w = get_or ys (area + j) 0 in
       let C = cells (uncode w) in
@@ -83,3 +88,12 @@ module _ {xs ys : List ℕ} {area j k : ℕ} (s : Gathers k xs ys area j) (g : a
             ∙ ap (sets xs area) (sym (append_assoc S C (replicate (j + 1 - length S - length C) 0)) ∙ ap (λ (i : ℕ). (S ++ C) ++ replicate i 0) t)
             ∙ ap (λ (l : List ℕ). sets xs area (pad (j + 1) l)) (sym q);
       }
+
+  -- the word holds nothing, or a pair
+  pub gather_past : get_or ys (area + j) 0 ≡ 0 → Gathers k xs ys area (j + 1)
+  gather_past e =
+      let z : k + 0 ≡ k = omega arith in
+      rw z at (gather_turn (gather_none ys (area + j) (area + k) e))
+
+  pub gather_on : 0 < get_or ys (area + j) 0 → Gathers (k + 1) xs (set (set ys (area + j) 0) (area + k) (get_or ys (area + j) 0 - 1)) area (j + 1)
+  gather_on h = gather_turn (gather-some ys (area + j) (area + k) _ refl h)

@@ -1,7 +1,6 @@
--- Codes: the table of elements. Spread: elements become it. Word: one update taken at a word. Gathering: the table becomes elements.
+-- Codes: the table of elements. Spread: elements become it. Gathering: the table becomes elements.
 -- Turn: the loop over the updates. Assumes nothing.
 pub mod Codes
 pub mod Spread
-pub mod Word
 pub mod Gathering
 pub mod Turn

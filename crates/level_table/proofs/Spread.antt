@@ -1,6 +1,6 @@
 -- The elements become the table, from the last on: after the elements from j on, the words from j on are those of their table.
---   Spreading        the words then          spread_starts, spread_ends    before the first turn, behind the last
---   spread_valid     what a turn reads       spread_turn                   a turn
+--   Spreading        the words then          spread_starts    before the first turn
+--   spread_valid     what a turn reads       spread_turn      a turn
 -- Assumes nothing.
 use Prim.Native.Nat.{ℕ, zero, suc, ◌+◌, ◌-◌, ◌<◌, ◌≤◌}
 use mathlib.Core.Path.{◌≡◌, refl, sym, ap, ◌∙◌}
@@ -48,12 +48,6 @@ module _ {xs : List ℕ} {area m n : ℕ} (d : Laid xs area m n) where
       let p : part xs (area + m) (n - m) ≡ R =
       sym (drop-part xs area m n) ∙ ap (drop m) d.zeros ∙ drop_at E (replicate (n - length E) 0) m size ∙ ap (λ (k : ℕ). replicate {A = ℕ} (n - k) 0) size in
       sym (ap (sets xs (area + m)) (t ∙ sym p) ∙ put-part (n - m) xs (area + m) (omega (arith, d.fits, d.some)))
-
-  pub spread_ends : (j : ℕ) (ys : List ℕ) → j ≡ 0 → Spreading xs area m n j ys → ys ≡ sets xs area (table n E)
-  spread_ends j ys e s =
-      let z : area + 0 ≡ area = omega arith in
-      let t : ys ≡ sets xs (area + 0) (table n E) = rw e at s in
-      t ∙ ap (λ (i : ℕ). sets xs i (table n E)) z
 
   module _ {i : ℕ} (l : 0 < i) (h : i ≤ m) {ys : List ℕ} (t : Spreading xs area m n i ys) where
     abbrev j : ℕ

@@ -1,5 +1,5 @@
 -- The loop over the updates, by the table: the words after j updates are those of `level` after j, with the table for the elements.
---   Tabled                        the words after j updates            tabled_starts, tabled_ends    before the first, behind the last
+--   Tabled                        the words after j updates            tabled_ends    behind the last
 --   tabled_ready, tabled_turn     the next can be taken; it was
 -- Read first: Rattle.level, proofs/Turn (`Going`), which the counts follow.
 -- Assumes nothing.
@@ -22,11 +22,11 @@ use Rattle.layout.proofs.Image.{pair_unword, length-pad, length-words}
 use Rattle.level.specs.Step.{step, Took}
 use Rattle.level.specs.Run.{Desk, taken, TookAll}
 use Rattle.level.proofs.Pads.{part-pad}
-use Rattle.level.proofs.Turn.{step_alone, Going, going_starts, going_on, going_ends, valid_at, asc_at, fits_at, own_id}
+use Rattle.level.proofs.Turn.{step_alone, Going, going_on, going_ends, valid_at, asc_at, fits_at, own_id}
 use Rattle.tidy_parts.specs.Marks.{code, uncode, squeezed}
 use Rattle.tidy_parts.proofs.Reading.{uncode-code}
 use Rattle.level_table.specs.declared.Moved.{Moved}
-use Rattle.level_table.specs.Table.{Laid, table, TookWord, Gathers}
+use Rattle.level_table.specs.Table.{table, TookWord, Gathers}
 use Rattle.level_table.proofs.Codes.{set-put_in, length-table, get_or-table, table-put, squeezed-table}
 
 -- a step of `level`, opened
@@ -51,13 +51,7 @@ again : {xs : List ℕ} {area m n at b j : ℕ} {ys : List ℕ} {e k x : ℕ} �
     → Going xs area m n at b j (laid xs area m n at b j) (length (taken xs area m at b j).elements) k x
 again g = record { elements = refl; passed = g.passed; ended = g.ended; behind = g.behind; few = g.few; words = refl }
 
-pub desk_laid : {xs : List ℕ} {area m n at count : ℕ} → Desk xs area m n at count → Laid xs area m n
-desk_laid d = record { fits = d.fits; ascends = d.ascends; valid = d.valid; zeros = d.zeros; some = d.some }
-
 module _ {xs : List ℕ} {area m n at count : ℕ} (d : Desk xs area m n at count) (b : ℕ) where
-  pub tabled_starts : Tabled xs area m n at b 0 (sets xs area (table n (part xs area m))) 0 0
-  tabled_starts = record { going = again (going_starts d b); words = refl }
-
   module _ {j : ℕ} {ys : List ℕ} {k x : ℕ} (t : Tabled xs area m n at b j ys k x) where
     abbrev F : List ℕ
     F = (taken xs area m at b j).elements
@@ -74,7 +68,7 @@ module _ {xs : List ℕ} {area m n at count : ℕ} (d : Desk xs area m n at coun
     C_size : length (table n F) ≡ n
     C_size = length-table n F
 
-    pub tabled_size : length ys ≡ length xs
+    tabled_size : length ys ≡ length xs
     tabled_size = ap length t.words ∙ simp length-sets
 
     pub tabled_ends : j ≡ count → {r : ℕ} {zs : List ℕ} → Gathers r ys zs area n

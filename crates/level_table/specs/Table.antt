@@ -1,7 +1,7 @@
 -- A level's elements as a table, a word for each id: what each part of the code asks of the words, and what is then true of them.
 --   Laid        the elements in the words                 table                 the words of the elements by id
 --   Writable    an update can be taken at a word          TookWord              it was taken there
---   GathersOne  the pair of one word                      Gathers               the pairs of all of them
+--   Gathers     the pairs of all the words
 -- Not here: what a level does with each kind (`take_one`, Rattle.rules, Step), and all updates together (`TookAll`, Rattle.level, Run).
 -- Assumes nothing.
 use Rattle.std.specs.Prelude.{ℕ, ◌+◌, ◌<◌, ◌≤◌, ◌≡◌, List, [], ◌∷◌, length, get_or, set}
@@ -11,7 +11,7 @@ use Rattle.lists.specs.Put.{part}
 use Rattle.rules.specs.Pair.{OPEN}
 use Rattle.rules.specs.Update.{Update, waits}
 use Rattle.rules.specs.Sound.{Asc}
-use Rattle.rules.specs.Step.{find, cells, Taken, take_one}
+use Rattle.rules.specs.Step.{find, Taken, take_one}
 use Rattle.rules.specs.Firm.{Valid}
 use Rattle.layout.specs.Words.{words}
 use Rattle.tidy_parts.specs.Marks.{code, uncode, codes, squeezed}
@@ -44,11 +44,6 @@ pub record TookWord (r : Moved) (xs ys : List ℕ) (place to b : ℕ) (u : Updat
   pub passed : r.passed ≡ length (taken_at xs place b u).passed
   pub ended : r.ended + tally waits (taken_at xs place b u).passed ≡ tally waits (u ∷ [])
   pub words : ys ≡ set (sets xs to (words (taken_at xs place b u).passed)) place (code (taken_at xs place b u).here)
-
--- the word at `from` is zero, and then the pair that it held, if it held one, is at `to`; r is how many it held
-pub record GathersOne (r : ℕ) (xs ys : List ℕ) (from to : ℕ) : Type 0 where
-  pub number : r ≡ length (cells (uncode (get_or xs from 0)))
-  pub words : ys ≡ sets (set xs from 0) to (cells (uncode (get_or xs from 0)))
 
 -- the pairs that the n words at `area` held stand there from the front, with zeros behind them; r is their number
 pub record Gathers (r : ℕ) (xs ys : List ℕ) (area n : ℕ) : Type 0 where

@@ -9,7 +9,7 @@ ghost use Rattle.rules.specs.Pair.{OPEN, id_of};
 ghost use Rattle.rules.specs.Update.{decrease, delete, sink};
 ghost use Rattle.layout.specs.Words.{unword};
 ghost use Rattle.level.specs.Run.{Desk, TookAll};
-ghost use Rattle.level_table.specs.Table.{Laid, table, Writable, TookWord, GathersOne, Gathers};
+ghost use Rattle.level_table.specs.Table.{Laid, table, Writable, TookWord, Gathers};
 
 use level::Counts;
 use pair::{Pair, Update};
@@ -29,21 +29,19 @@ fn scatter(img: &mut [u64], area: usize, m: usize, n: usize)
     requires { Laid img.old area m n }
     ensures { img.new ≡ sets img.old area (table n (part img.old area m)) }
 {
-    let mut j = m;
-    while 0 < j {
-        j -= 1;
-        let p = img[area + j];
+    for j in (0..m).rev() {
+        let p = Pair(img[area + j]);
         img[area + j] = 0;
-        img[area + Pair::id(p) as usize] = p + 1;
+        img[area + p.id() as usize] = p.0 + 1;
     }
 }
 
 // "Delete: drop the id here if present; pass the Delete" on. It goes on as it came, whatever its key.
-fn take_delete(img: &mut [u64], place: usize, to: usize, p: u64) -> Moved
-    requires { Writable img.old place to p }
-    ensures { TookWord result img.old img.new place to 0 (delete p) }
+fn take_delete(img: &mut [u64], place: usize, to: usize, p: Pair) -> Moved
+    requires { Writable img.old place to p.0 }
+    ensures { TookWord result img.old img.new place to 0 (delete p.0) }
 {
-    img[to] = Update::DELETE * Pair::OPEN + p;
+    img[to] = Update::Delete(p).word();
     img[place] = 0;
     Moved {
         passed: 1,
@@ -53,93 +51,81 @@ fn take_delete(img: &mut [u64], place: usize, to: usize, p: u64) -> Moved
 
 // "Decrease: if the id is here, keep the smaller cost and end it. If not here and the pair is at most the bound, enter it and pass on a Delete of
 // that id. Else pass the Decrease on."
-fn take_decrease(img: &mut [u64], place: usize, to: usize, p: u64, bound: u64) -> Moved
-    requires { Writable img.old place to p }
-    ensures { TookWord result img.old img.new place to bound (decrease p) }
+// Kept: in a word of the table 0 says none, and no Option stands there, since it is a word of the lent work area (`table`, `codes`).
+fn take_decrease(img: &mut [u64], place: usize, to: usize, p: Pair, bound: u64) -> Moved
+    requires { Writable img.old place to p.0 }
+    ensures { TookWord result img.old img.new place to bound (decrease p.0) }
 {
     let q = img[place];
     if 0 < q {
-        img[place] = Pair::lesser(q, p + 1);
-        return Moved {
+        img[place] = q.min(p.0 + 1);
+        Moved {
             passed: 0,
             ended: 1,
-        };
-    }
-    if p <= bound {
-        img[to] = Update::delete(Pair::id(p));
-        img[place] = p + 1;
-        return Moved {
+        }
+    } else if p.0 <= bound {
+        img[to] = Update::Delete(Pair(p.id())).word();
+        img[place] = p.0 + 1;
+        Moved {
             passed: 1,
             ended: 0,
-        };
-    }
-    img[to] = Update::decrease(p);
-    Moved {
-        passed: 1,
-        ended: 0,
+        }
+    } else {
+        img[to] = Update::Decrease(p).word();
+        Moved {
+            passed: 1,
+            ended: 0,
+        }
     }
 }
 
 // "Sink: if at most the bound, enter it; else pass it on."
-fn take_sink(img: &mut [u64], place: usize, to: usize, p: u64, bound: u64) -> Moved
-    requires { Writable img.old place to p }
-    ensures { TookWord result img.old img.new place to bound (sink p) }
+fn take_sink(img: &mut [u64], place: usize, to: usize, p: Pair, bound: u64) -> Moved
+    requires { Writable img.old place to p.0 }
+    ensures { TookWord result img.old img.new place to bound (sink p.0) }
 {
-    if bound < p {
-        img[to] = Update::sink(p);
-        return Moved {
+    if bound < p.0 {
+        img[to] = Update::Sink(p).word();
+        Moved {
             passed: 1,
             ended: 0,
-        };
-    }
-    img[place] = p + 1;
-    Moved {
-        passed: 0,
-        ended: 0,
+        }
+    } else {
+        img[place] = p.0 + 1;
+        Moved {
+            passed: 0,
+            ended: 0,
+        }
     }
 }
 
 // One update word w, at the word of its id: "kind 1 Decrease, 2 Delete (key 0), 3 Sink".
+// Kept: no trait over this and `level`: between updates the words are a word for each id here, elements by place there (`TookWord`, `Took`).
 fn take_one(img: &mut [u64], area: usize, to: usize, w: u64, bound: u64) -> Moved
     requires { (to < area) × (area + id_of (w % OPEN) < length img.old) }
     ensures { TookWord result img.old img.new (area + id_of (w % OPEN)) to bound (unword w) }
 {
-    let p = Update::pair_of(w);
-    let kind = Update::kind(w);
-    let place = area + Pair::id(p) as usize;
-    if kind == Update::DECREASE {
-        return take_decrease(img, place, to, p, bound);
+    match Update::from(w) {
+        Update::Decrease(p) => take_decrease(img, area + p.id() as usize, to, p, bound),
+        Update::Delete(p) => take_delete(img, area + p.id() as usize, to, p),
+        Update::Sink(p) => take_sink(img, area + p.id() as usize, to, p, bound),
     }
-    if kind == Update::DELETE {
-        return take_delete(img, place, to, p);
-    }
-    take_sink(img, place, to, p, bound)
-}
-
-// The pair that the word at `from` holds, if it holds one, goes to `to`; the answer is how many it holds.
-fn gather_one(img: &mut [u64], from: usize, to: usize) -> usize
-    requires { (to ≤ from) × (from < length img.old) }
-    ensures { GathersOne result img.old img.new from to }
-{
-    let w = img[from];
-    if 0 < w {
-        img[from] = 0;
-        img[to] = w - 1;
-        return 1;
-    }
-    0
 }
 
 // The pairs that the n words at `area` hold come to stand there from the front, with zeros behind them; the answer is their number.
+#[tactic(auto, using(crate::proofs::Gathering::gather_past, crate::proofs::Gathering::gather_on))]
 fn gather(img: &mut [u64], area: usize, n: usize) -> usize
     requires { area + n ≤ length img.old }
     ensures { Gathers result img.old img.new area n }
 {
     let mut k = 0;
-    let mut j = 0;
-    while j < n {
-        k += gather_one(img, area + j, area + k);
-        j += 1;
+    for i in 0..n {
+        let w = img[area + i];
+        if 0 < w {
+            img[area + i] = 0;
+            img[area + k] = w - 1;
+            k += 1;
+        }
     }
     k
 }
@@ -160,13 +146,11 @@ fn take_by_table(
     scatter(img, area, m, n);
     let mut passed = 0;
     let mut ended = 0;
-    let mut j = 0;
-    while j < count {
+    for j in 0..count {
         let w = img[at + j];
         let took = take_one(img, area, at + passed, w, bound);
         passed += took.passed;
         ended += took.ended;
-        j += 1;
     }
     let elements = gather(img, area, n);
     words_moved::clear(img, at + passed, count - passed);
@@ -178,6 +162,7 @@ fn take_by_table(
 }
 
 // "each level takes its updates in order": many of them by the table, few by looking each up. What is left in the words is the same.
+// Kept: seven parameters and no struct of them, since the signature is public, and `Desk` and `TookAll` take each by itself.
 pub fn take_updates(
     img: &mut [u64],
     area: usize,
@@ -191,7 +176,8 @@ pub fn take_updates(
     ensures { TookAll result img.old img.new area m n at count bound }
 {
     if n / FEW < count {
-        return take_by_table(img, area, m, n, at, count, bound);
+        take_by_table(img, area, m, n, at, count, bound)
+    } else {
+        level::take_updates(img, area, m, n, at, count, bound)
     }
-    level::take_updates(img, area, m, n, at, count, bound)
 }

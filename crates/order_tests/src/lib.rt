@@ -1,5 +1,5 @@
 // One reading of a level's element words and of its update words: each word is tested, and noted in a table that holds for each id what its
-// last entry was (0 nothing yet, 1 a Delete, 2 any other). The meanings are Rattle.image_clauses.specs.Marks.
+// last entry was. The meanings are Rattle.image_clauses.specs.Marks, and the table's numbers there are Rattle.order_tests.specs.Mark.
 #![tactic(auto)]
 
 ghost use Rattle.std.specs.Prelude.{[], ◌∷◌, ◌+◌, ◌<◌, ◌≤◌, length};
@@ -10,43 +10,47 @@ ghost use Rattle.rules.specs.Heap.{stores};
 ghost use Rattle.layout.specs.Words.{unwords};
 ghost use Rattle.image_clauses.specs.Clauses.{Pairs, UpdateOk};
 ghost use Rattle.image_clauses.specs.Marks.{Noted, Read};
+ghost use Rattle.order_tests.specs.Mark.{numbers};
 
 use pair::{Pair, Update};
 
-// The marks of a last entry.
-const DELETED: u8 = 1;
-
-const SET: u8 = 2;
+// What an id's last entry was: none yet, a Delete, or any other.
+#[derive(Clone, Copy, PartialEq, Eq)]
+pub enum Mark {
+    Nothing,
+    Deleted,
+    Set,
+}
 
 // A stored pair: false where its id's last entry is there and is no Delete.
-pub fn note_pair(last: &mut [u8], p: u64) -> bool
+pub fn note_pair(last: &mut [Mark], p: u64) -> bool
     requires { id_of p < length last.old }
-    ensures { Noted result last.old last.new (stores (p ∷ [])) }
+    ensures { Noted result (numbers last.old) (numbers last.new) (stores (p ∷ [])) }
 {
-    let id = Pair::id(p) as usize;
-    if last[id] >= SET {
+    let id = Pair(p).id() as usize;
+    if last[id] == Mark::Set {
         return false;
     }
-    last[id] = SET;
+    last[id] = Mark::Set;
     true
 }
 
 // An update word.
-pub fn note_update(last: &mut [u8], w: u64) -> bool
+pub fn note_update(last: &mut [Mark], w: u64) -> bool
     requires { id_of w < length last.old }
-    ensures { Noted result last.old last.new (unwords (w ∷ [])) }
+    ensures { Noted result (numbers last.old) (numbers last.new) (unwords (w ∷ [])) }
 {
-    let kind = Update::kind(w);
-    let id = Pair::id(w) as usize;
-    if kind == Update::DECREASE {
-        last[id] = SET;
-        return true;
+    match Update::from(w) {
+        Update::Decrease(p) => {
+            last[p.id() as usize] = Mark::Set;
+            true
+        }
+        Update::Delete(p) => {
+            last[p.id() as usize] = Mark::Deleted;
+            true
+        }
+        Update::Sink(p) => note_pair(last, p.0),
     }
-    if kind == Update::DELETE {
-        last[id] = DELETED;
-        return true;
-    }
-    note_pair(last, w)
 }
 
 // Whether `count` words from `at` on are pairs as a level with the floor `low` and the bound `high` has them, ids strictly ascending, that come
@@ -58,27 +62,18 @@ pub fn read_pairs(
     n: u64,
     low: u64,
     high: u64,
-    last: &mut [u8],
+    last: &mut [Mark],
 ) -> bool
     requires { (at + count ≤ length img.now) × (n ≤ length last.old) }
-    ensures { Read (Pairs n low high 0 (part img.now at count)) result last.old last.new (stores (part img.now at count)) }
+    ensures { Read (Pairs n low high 0 (part img.now at count)) result (numbers last.old) (numbers last.new) (stores (part img.now at count)) }
 {
     let mut next = 0;
-    let mut j = 0;
-    while j < count {
-        let p = img[at + j];
-        let id = Pair::id(p);
-        if id < next {
-            return false;
-        }
-        if !stretch_tests::pair_ok(p, n, low, high) {
-            return false;
-        }
-        if !note_pair(last, p) {
+    for p in &img[at..at + count] {
+        let id = Pair(*p).id();
+        if id < next || !stretch_tests::pair_ok(*p, n, low, high) || !note_pair(last, *p) {
             return false;
         }
         next = id + 1;
-        j += 1;
     }
     true
 }
@@ -91,21 +86,15 @@ pub fn read_updates(
     n: u64,
     low: u64,
     top: u64,
-    last: &mut [u8],
+    last: &mut [Mark],
 ) -> bool
     requires { (at + count ≤ length img.now) × (n ≤ length last.old) }
-    ensures { Read (Every (UpdateOk n low top) (part img.now at count)) result last.old last.new (unwords (part img.now at count)) }
+    ensures { Read (Every (UpdateOk n low top) (part img.now at count)) result (numbers last.old) (numbers last.new) (unwords (part img.now at count)) }
 {
-    let mut j = 0;
-    while j < count {
-        let w = img[at + j];
-        if !stretch_tests::update_ok(w, n, low, top) {
+    for w in &img[at..at + count] {
+        if !stretch_tests::update_ok(*w, n, low, top) || !note_update(last, *w) {
             return false;
         }
-        if !note_update(last, w) {
-            return false;
-        }
-        j += 1;
     }
     true
 }

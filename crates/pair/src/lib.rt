@@ -2,16 +2,15 @@
 // Rattle.layout.specs.Words; a caller's straight-line code needs no proof of its own.
 #![tactic(auto)]
 
-ghost use Rattle.std.specs.Prelude.{◌≡◌, ◌/◌, ◌%◌, ◌<◌, min};
+ghost use Rattle.std.specs.Prelude.{◌≡◌, ◌/◌, ◌<◌};
 ghost use Rattle.rules.specs.Pair.{IDS, KEYS, OPEN, pair_of, key_of, id_of};
-ghost use Rattle.rules.specs.Update.{decrease, delete, sink};
+ghost use Rattle.rules.specs.Update.{decrease, delete, sink, pair_in};
 ghost use Rattle.layout.specs.Words.{kind_in, word, SINK};
+ghost use Rattle.pair.specs.Update.{update_of, IsReadFrom};
 
 // "A pair is key x 65,536 + id, so whole numbers compare in the right order."
 #[derive(Clone, Copy)]
-pub struct Pair {
-    pub word: u64,
-}
+pub struct Pair(pub u64);
 
 impl Pair {
     // "The open bound 2^56 and the key limit 2^40 belong to the pair as its fixed numbers."
@@ -21,37 +20,32 @@ impl Pair {
 
     pub const IDS: u64 = 65536;
 
-    pub fn make(key: u64, id: u64) -> u64
+    pub fn make(key: u64, id: u64) -> Pair
         requires { (key < KEYS) × (id < IDS) }
-        ensures { result ≡ pair_of key id }
+        ensures { result.0 ≡ pair_of key id }
     {
-        key * Pair::IDS + id
+        Pair(key * Pair::IDS + id)
     }
 
-    pub fn key(p: u64) -> u64
-        ensures { result ≡ key_of p }
+    pub fn key(self) -> u64
+        ensures { result ≡ key_of self.0 }
     {
-        p / Pair::IDS
+        self.0 / Pair::IDS
     }
 
-    pub fn id(p: u64) -> u64
-        ensures { result ≡ id_of p }
+    pub fn id(self) -> u64
+        ensures { result ≡ id_of self.0 }
     {
-        p % Pair::IDS
-    }
-
-    // The smaller of two: that of the smaller cost, and of equal costs that of the smaller id.
-    pub fn lesser(a: u64, b: u64) -> u64
-        ensures { result ≡ min a b }
-    {
-        if a < b { a } else { b }
+        self.0 % Pair::IDS
     }
 }
 
-// "An update word is kind x 2^56 + pair; kind 1 Decrease, 2 Delete (key 0), 3 Sink."
+// "An update word is kind x 2^56 + pair; kind 1 Decrease, 2 Delete (key 0), 3 Sink." Each holds its pair; a Delete's pair has key 0, so it is the id.
 #[derive(Clone, Copy)]
-pub struct Update {
-    pub word: u64,
+pub enum Update {
+    Decrease(Pair),
+    Delete(Pair),
+    Sink(Pair),
 }
 
 impl Update {
@@ -64,37 +58,37 @@ impl Update {
     // A pair with this added is the word of its Sink.
     pub const SINK_TAG: u64 = Update::SINK * Pair::OPEN;
 
-    pub fn decrease(p: u64) -> u64
-        requires { p < OPEN }
-        ensures { result ≡ word (decrease p) }
+    // The update as a word.
+    pub fn word(self) -> u64
+        requires { pair_in (update_of self) < OPEN }
+        ensures { result ≡ word (update_of self) }
     {
-        Update::DECREASE * Pair::OPEN + p
+        match self {
+            Update::Decrease(p) => Update::DECREASE * Pair::OPEN + p.0,
+            Update::Delete(p) => Update::DELETE * Pair::OPEN + p.0,
+            Update::Sink(p) => Update::SINK_TAG + p.0,
+        }
     }
 
-    pub fn delete(id: u64) -> u64
-        requires { id < IDS }
-        ensures { result ≡ word (delete id) }
-    {
-        Update::DELETE * Pair::OPEN + id
-    }
-
-    pub fn sink(p: u64) -> u64
-        requires { p < OPEN }
-        ensures { result ≡ word (sink p) }
-    {
-        Update::SINK_TAG + p
-    }
-
+    // The kind of a word that may be no update's.
     pub fn kind(w: u64) -> u64
         ensures { result ≡ w / OPEN }
     {
         w / Pair::OPEN
     }
+}
 
-    pub fn pair_of(w: u64) -> u64
-        ensures { result ≡ w % OPEN }
-    {
-        w % Pair::OPEN
+// Any word read as an update: of another kind than 1 and 2 it is a Sink.
+impl From<u64> for Update {
+    ghost from_gives = { IsReadFrom };
+
+    fn from(w: u64) -> Update {
+        let p = Pair(w % Pair::OPEN);
+        match Update::kind(w) {
+            Update::DECREASE => Update::Decrease(p),
+            Update::DELETE => Update::Delete(p),
+            _ => Update::Sink(p),
+        }
     }
 }
 

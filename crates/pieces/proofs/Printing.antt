@@ -1,17 +1,17 @@
 -- Text written piece by piece: a digit behind digits, and a copied byte.
 -- Assumes nothing.
 use Prim.Native.Nat.{ℕ, ◌+◌, ◌/◌, ◌%◌, ◌^◌, ◌<◌, ◌≤◌}
-use mathlib.Core.List.{List, [], ◌∷◌}
-use mathlib.Core.Path.{◌≡◌, refl}
+use mathlib.Core.List.{List, [], ◌∷◌, ◌++◌}
+use mathlib.Core.Path.{◌≡◌, refl, ◌∙◌}
 use native.Mathlib.Omega.{arith}
-use native.Mathlib.Numerals.{add-one}
-use lib.ListN.{length, get_or, set, take, length-append}
-use lib.Seq.{sets, take-suc, length-take-le}
-use Rattle.lists.specs.Put.{put_snoc}
+use lib.ListN.{length, set, length-append}
+use lib.Seq.{length-sets}
 use Rattle.text.specs.Decimals.{glyph, decimal}
 use Rattle.text.proofs.Decimals.{decimal_one, decimal_more, decimal-length}
 use Rattle.text.specs.Stored.{Stored}
-use Rattle.text.proofs.Stored.{stored_byte}
+use Rattle.text.proofs.Stored.{stored_none, stored_byte, stored_then}
+use Rattle.pieces.specs.declared.Text.{Text}
+use Rattle.pieces.specs.Texts.{Adds}
 
 -- ---- a number
 
@@ -33,7 +33,13 @@ length-number n h = decimal-length 19 n (omega arith)
 
 -- ---- a text
 
-pub text_turn : (a : List ℕ) (at : ℕ) (t : List ℕ) (i : ℕ) → i < length t → set (sets a at (take i t)) (at + i) (get_or t i 0) ≡ sets a at (take (i + 1) t)
-text_turn a at t i h =
-    let e : length (take i t) ≡ i = length-take-le i t (omega arith) in
-    rw (add-one i, take-suc t i 0 h, put_snoc, e)
+-- what is stored leaves as many bytes
+pub adds : {a : Text} {x : List ℕ} {b : Text} → b.bytes.ghost_name ≡ a.bytes.ghost_name → Stored a.bytes.now a.end x b.end b.bytes.now → Adds a x b
+adds {a} {x} {b} l s = record { lent = l; many = rw s.bytes (length-sets a.bytes.now a.end x); stored = s }
+
+pub adds_none : {a : Text} → Adds a [] a
+adds_none {a} = adds refl (stored_none a.bytes.now a.end)
+
+-- pieces behind each other
+pub adds_then : {a : Text} {x : List ℕ} {b : Text} {y : List ℕ} {c : Text} → Adds a x b → Adds b y c → Adds a (x ++ y) c
+adds_then p q = record { lent = q.lent ∙ p.lent; many = q.many ∙ p.many; stored = stored_then p.stored q.stored }

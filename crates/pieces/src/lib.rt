@@ -1,53 +1,62 @@
-// The pieces of a printed line, written into a lent slice of bytes from a place on: a number's digits, a number with a byte behind it, a word. Each function says where
-// its piece ends, and leaves the other bytes.
+// The pieces of a printed line, written into lent bytes behind the text that stands there: a number's digits, a number with a byte behind it, a word.
 #![tactic(auto)]
 
 ghost use Rattle.std.specs.Prelude.{◌+◌, ◌<◌, ◌≤◌, ◌≡◌, length};
 ghost use Rattle.text.specs.Decimals.{decimal, field, glyph as Decimals·glyph};
-ghost use Rattle.text.specs.Stored.{Stored};
+ghost use Rattle.pieces.specs.Texts.{Adds};
 
-const ZERO: u8 = 48;
-
-// A number, and one byte behind it.
-pub fn put_field(out: &mut [u8], at: usize, n: u64, byte: u8) -> usize
-    requires { at + 21 ≤ length out.old }
-    ensures { Stored out.old at (field n byte) result out.new × (result ≤ at + 21) }
-{
-    let end = put_number(out, at, n);
-    out[end] = byte;
-    end + 1
+// Lent bytes, and where the text in them ends. A piece is written there, and leaves the other bytes.
+#[derive(Drop)]
+pub struct Text<'a> {
+    pub bytes: &'a mut [u8],
+    pub end: usize,
 }
 
-// A number's decimal digits: those before the last one first.
-pub fn put_number(out: &mut [u8], at: usize, n: u64) -> usize
-    requires { at + length (decimal n) ≤ length out.old }
-    ensures { Stored out.old at (decimal n) result out.new }
-{
-    if n < 10 {
-        out[at] = glyph(n);
-        return at + 1;
+impl<'a> Text<'a> {
+    // No text yet.
+    pub fn new(bytes: &'a mut [u8]) -> Text<'a>
+        ensures { (result.bytes.ghost_name ≡ bytes.entry.ghost_name) × (result.bytes.now ≡ bytes.old) × (result.end ≡ 0) }
+    {
+        Text { bytes, end: 0 }
     }
-    let end = put_number(out, at, n / 10);
-    out[end] = glyph(n % 10);
-    end + 1
+
+    // A number, and one byte behind it.
+    pub fn field(&mut self, n: u64, byte: u8)
+        requires { self.old.end + 21 ≤ length self.old.bytes.now }
+        ensures { Adds self.old (field n byte) self.new × (self.new.end ≤ self.old.end + 21) }
+    {
+        self.number(n);
+        self.bytes[self.end] = byte;
+        self.end += 1;
+    }
+
+    // A number's decimal digits: those before the last one first.
+    // Kept: std's writer of digits (core::fmt::int) is private, and those of the kit's itoa and io are a dependency more, with a buffer of their own to copy from.
+    pub fn number(&mut self, n: u64)
+        requires { self.old.end + length (decimal n) ≤ length self.old.bytes.now }
+        ensures { Adds self.old (decimal n) self.new }
+    {
+        if n >= 10 {
+            self.number(n / 10);
+        }
+        self.bytes[self.end] = glyph(n % 10);
+        self.end += 1;
+    }
+
+    // A word.
+    pub fn word(&mut self, word: &[u8])
+        requires { self.old.end + length word.now ≤ length self.old.bytes.now }
+        ensures { Adds self.old word.now self.new }
+    {
+        let end = self.end + word.len();
+        self.bytes[self.end..end].copy_from_slice(word);
+        self.end = end;
+    }
 }
 
 fn glyph(d: u64) -> u8
     requires { d < 10 }
     ensures { result ≡ Decimals·glyph d }
 {
-    ZERO + d as u8
-}
-
-// Copies a text.
-pub fn put_text(out: &mut [u8], at: usize, text: &[u8]) -> usize
-    requires { at + length text.now ≤ length out.old }
-    ensures { Stored out.old at text.now result out.new }
-{
-    let mut i = 0;
-    while i < text.len() {
-        out[at + i] = text[i];
-        i += 1;
-    }
-    at + i
+    b'0' + d as u8
 }

@@ -7,6 +7,7 @@ use mathlib.Core.List.{List}
 use native.Mathlib.Omega.{arith}
 use native.Mathlib.Numerals.{add-one}
 use lib.ListN.{length, get_or, set, drop}
+use lib.Seq.{get_or-set_other}
 use Rattle.rules.specs.Pair.{levels}
 use Rattle.rules.specs.Update.{Update}
 use Rattle.rules.specs.Queue.{push, updated}
@@ -16,10 +17,13 @@ use Rattle.layout.specs.Image.{HEAD, updates_below}
 use Rattle.layout.specs.SoundImage.{n_of, heap_of, laid_back}
 use Rattle.layout.proofs.Back.{word_two}
 use Rattle.layout.proofs.Push.{free_at, Pushed, no_tidy, push_three}
-use Rattle.layout.proofs.Verdict.{need_low}
 use Rattle.push_update.specs.Pushable.{Pushable}
 use Rattle.push_update.proofs.Counts.{first_counted}
 use Rattle.push_update.proofs.Header.{levels_is, top_is}
+
+-- word 2 stands before level 0's row
+pub count_stays : (ws : List ℕ) (v : ℕ) → get_or (set ws 2 v) (HEAD + 2) 0 ≡ get_or ws (HEAD + 2) 0
+count_stays ws v = get_or-set_other ws 2 (HEAD + 2) v 0 (omega arith)
 
 module _ (ws : List ℕ) (w : ℕ) (p : Pushable ws w) where
   abbrev u : Update
@@ -32,10 +36,7 @@ module _ (ws : List ℕ) (w : ℕ) (p : Pushable ws w) where
   pub push_changes_three : Pushed ws (unword w) (laid_back ws (push (unword w) (heap_of ws)))
   push_changes_three = rw same (push_three ws p.sound u p.asked p.room)
 
-  -- what the code reads and stores stays in the slice, and counts stay small
-  pub header_fits : HEAD + 2 < length ws
-  header_fits = omega (arith, p.sound.long, need_low (n_of ws) p.sound.sound.range)
-
+  -- what the code stores stays in the slice, and counts stay small
   pub top_inside : get_or ws 4 0 + updates_below (get_or ws 1 0) (drop HEAD ws) < length ws
   top_inside = omega (arith, push_changes_three.inside, p.sound.long, top_is ws p.sound)
 
@@ -49,7 +50,7 @@ module _ (ws : List ℕ) (w : ℕ) (p : Pushable ws w) where
 
   -- what the code stores
   pub push_stores : (top : ℕ) → top ≡ get_or ws 4 0 + updates_below (get_or ws 1 0) (drop HEAD ws)
-      → set (set (set ws 2 (get_or ws 2 0 + 1)) (HEAD + 2) (get_or ws (HEAD + 2) 0 + 1)) top w ≡ laid_back ws (push (unword w) (heap_of ws))
+      → set (set (set ws 2 (get_or ws 2 0 + 1)) (HEAD + 2) (get_or (set ws 2 (get_or ws 2 0 + 1)) (HEAD + 2) 0 + 1)) top w ≡ laid_back ws (push (unword w) (heap_of ws))
   push_stores top e =
-      rw (e, top_is ws p.sound, add-one (get_or ws 2 0), add-one (get_or ws (HEAD + 2) 0))
+      rw (e, count_stays ws (get_or ws 2 0 + 1), top_is ws p.sound, add-one (get_or ws 2 0), add-one (get_or ws (HEAD + 2) 0))
       (ap (set (set (set ws 2 (suc (get_or ws 2 0))) (HEAD + 2) (suc (get_or ws (HEAD + 2) 0))) (free_at ws)) p.spelt ∙ sym push_changes_three.words)

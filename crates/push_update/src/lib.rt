@@ -16,10 +16,8 @@ pub fn stack_top(img: &[u64], levels: usize, start: usize) -> usize
     ensures { result ≡ start + updates_below levels (drop HEAD img.now) }
 {
     let mut top = start;
-    let mut i = 0;
-    while i < levels {
+    for i in 0..levels {
         top += img[HEAD + ROW * i + UPDATES] as usize;
-        i += 1;
     }
     top
 }
@@ -32,9 +30,7 @@ pub fn push(img: &mut [u64], w: u64)
     let levels = img[LEVELS_AT] as usize;
     let start = img[STACK_AT] as usize;
     let top = stack_top(img, levels, start);
-    let waiting = img[WAITING_AT];
-    let count = img[HEAD + UPDATES];
-    img[WAITING_AT] = waiting + 1;
-    img[HEAD + UPDATES] = count + 1;
+    img[WAITING_AT] += 1;
+    img[HEAD + UPDATES] += 1;
     img[top] = w;
 }

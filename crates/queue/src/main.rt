@@ -6,7 +6,7 @@ ghost use Rattle.std.specs.Prelude.{ℕ, ◌*◌, ◌≤◌, ◌<◌, ◌≡◌,
 ghost use Rattle.answers.specs.Answers.{longest_text};
 ghost use Rattle.lines.specs.Lines.{room, Holds};
 ghost use Rattle.queue_lines.specs.Session.{Finishes};
-ghost use Rattle.queue.specs.Reads.{reads_left};
+ghost use Rattle.queue.specs.Reads.{ended};
 ghost use Rattle.queue.specs.Answered.{cleared, Turned, Answered};
 
 use lines::ROOM;
@@ -20,7 +20,7 @@ const CHUNK: usize = 512;
 
 const TEXT: usize = 34304;
 // How often is read at most: 2^48, a number that no run uses up.
-const READS: usize = 281474976710656;
+const READS: usize = 1 << 48;
 
 // One read: the bytes that came, how many are held of the last line, and the receipt for the text.
 #[derive(Clone, Copy)]
@@ -71,19 +71,20 @@ fn answer_all(
     let mut last = 0;
     let mut held = 0;
     let mut printed = streams::nothing();
-    let mut reads = READS;
-    while 0 < reads {
+    for _ in 0..READS {
         let t = answer_some(input, output, chunk, line, held, image, out);
         last = t.came;
         held = t.held;
         came += last;
         printed = streams::both(printed, t.printed);
-        reads = reads_left(reads, last, printed);
+        if ended(last, printed) {
+            break;
+        }
     }
     let p = answer_last(output, line, held, image, out);
     Moved {
-        came: came,
-        last: last,
+        came,
+        last,
         printed: streams::both(printed, p),
     }
 }
@@ -101,28 +102,20 @@ fn answer_some(
     requires { (held ≤ room) × (longest_text * length chunk.old ≤ length out.old) }
     ensures { Turned chunk.new line.old held image.old out.old result line.new image.new out.new }
 {
-    let n = streams::read_some(input, chunk);
-    let s = queue_lines::serve(&chunk[..n], line, held, image, out);
-    let end = s.end;
+    let came = streams::read_some(input, chunk);
+    let s = queue_lines::serve(&chunk[..came], line, held, image, out);
     Turn {
-        came: n,
+        came,
         held: s.held,
-        printed: streams::print(output, &out[..end]),
+        printed: streams::print(output, &out[..s.end]),
     }
 }
 
-// None once the input has ended, or a text was not taken.
-fn reads_left(reads: usize, came: usize, printed: Printed) -> usize
-    requires { 0 < reads }
-    ensures { result ≡ reads_left reads came printed.whole }
+// The input has ended, or a text was not taken.
+fn ended(came: usize, printed: Printed) -> bool
+    ensures { result ≡ ended came printed.whole }
 {
-    if came < 1 {
-        return 0;
-    }
-    if !streams::is_whole(printed) {
-        return 0;
-    }
-    reads - 1
+    came == 0 || !streams::is_whole(printed)
 }
 
 // "The last line may lack its newline": answers what is held at the end.

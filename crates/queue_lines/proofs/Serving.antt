@@ -18,6 +18,7 @@ use Rattle.command.proofs.Long.{beginning_asks}
 use Rattle.lines.specs.declared.Gathered.{Gathered}
 use Rattle.lines.specs.Lines.{room, kept, piece, Holds, Gathers}
 use Rattle.lines.proofs.Holding.{holds_none, taken_in}
+use Rattle.pieces.specs.declared.Text.{Text}
 use Rattle.replies.specs.Replies.{reply_text, Responds}
 use Rattle.queue_lines.specs.Session.{Session, Serves, Goes, Finishes}
 
@@ -31,10 +32,10 @@ session_append (l ∷ ls) ms ws t after u last p q =
 -- ---- a line more
 
 -- the line answered from the buffer is answered as a whole
-session_line : (line buffer : List ℕ) (held : ℕ) (ws out : List ℕ) (at end : ℕ) (after out_after : List ℕ) → Holds buffer line held
-    → (r : Responds (take held buffer) ws out at end after out_after) → Session (line ∷ []) ws (reply_text r.outcome.reply) after
+session_line : (line buffer : List ℕ) (held : ℕ) (ws : List ℕ) (before : Text) (image : List ℕ) (after : Text) → Holds buffer line held
+    → (r : Responds (take held buffer) ws before image after) → Session (line ∷ []) ws (reply_text r.outcome.reply) image
 unfolding kept
-session_line line buffer held ws out at end after out_after h r =
+session_line line buffer held ws before image after h r =
     let e : command_of (take held buffer) ≡ command_of line = ap command_of h.bytes ∙ beginning_asks line in
     (r.outcome, [], rw e at r.replies, sym (append-nil (reply_text r.outcome.reply)), (refl, r.image))
 
@@ -57,9 +58,9 @@ module _ (chunk : List ℕ) (from : ℕ) (l : List ℕ) (held : ℕ) (g : Gather
       })
 
   -- it has come
-  pub goes_answered : (ws out : List ℕ) (at end : ℕ) (after out_after : List ℕ) → g.ended ≡ true → Responds (take g.held m) ws out at end after out_after
-      → Goes l held (part chunk from (g.next - from)) ws out at m 0 after out_after end
-  goes_answered ws out at end after out_after e r line h =
+  pub goes_answered : (ws : List ℕ) (before : Text) (image : List ℕ) (after : Text) → g.ended ≡ true → Responds (take g.held m) ws before image after
+      → Goes l held (part chunk from (g.next - from)) ws before.bytes.now before.end m 0 image after.bytes.now after.end
+  goes_answered ws before image after e r line h =
       let k : up_to newline (drop from chunk) < length (drop from chunk) = simp length-drop (omega (arith, ltb-true (from + up_to newline (drop from chunk)) (length chunk) (sym q.ended ∙ e))) in
       let c : cut_at newline (line ++ part chunk from (up_to newline (drop from chunk) + 1)) ≡ (line ++ piece chunk from) ∷ [] ∷ [] =
       rw (add-one (up_to newline (drop from chunk)), piece_ended newline (drop from chunk) k) (cut_line newline line (piece chunk from) h.unended (cut_piece newline (drop from chunk))) in
@@ -70,8 +71,8 @@ module _ (chunk : List ℕ) (from : ℕ) (l : List ℕ) (held : ℕ) (g : Gather
         cut = c;
         holds = holds_none m;
         text = reply_text r.outcome.reply;
-        session = session_line (line ++ piece chunk from) m g.held ws out at end after out_after (with_piece line h) r;
-        stored = r.text;
+        session = session_line (line ++ piece chunk from) m g.held ws before image after (with_piece line h) r;
+        stored = r.text.stored;
       })
 
 -- ---- bytes behind bytes
@@ -121,12 +122,12 @@ pub finishes_none : (l line ws out : List ℕ) → Holds l line 0 → Finishes l
 unfolding closed
 finishes_none l line ws out h = rw (finish_none l line h) (record { text = []; session = (refl, refl); stored = stored_none out 0 })
 
-pub finishes_line : (l line : List ℕ) (held : ℕ) (ws out after out_after : List ℕ) (end : ℕ) → 0 < held → Holds l line held → Responds (take held l) ws out 0 end after out_after
-    → Finishes line ws out after out_after end
+pub finishes_line : (l line : List ℕ) (held : ℕ) (ws out : List ℕ) (before : Text) (image : List ℕ) (after : Text) → before.bytes.now ≡ out → before.end ≡ 0
+    → 0 < held → Holds l line held → Responds (take held l) ws before image after → Finishes line ws out image after.bytes.now after.end
 unfolding closed kept
-finishes_line l [] held ws out after out_after end g h r = absurd (omega (arith, h.count))
-finishes_line l (b ∷ line) held ws out after out_after end g h r = record {
+finishes_line l [] held ws out before image after o z g h r = absurd (omega (arith, h.count))
+finishes_line l (b ∷ line) held ws out before image after o z g h r = record {
   text = reply_text r.outcome.reply;
-  session = session_line (b ∷ line) l held ws out 0 end after out_after h r;
-  stored = r.text;
+  session = session_line (b ∷ line) l held ws before image after h r;
+  stored = rw (o, z) at r.text.stored;
 }

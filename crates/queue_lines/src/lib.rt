@@ -8,6 +8,7 @@ ghost use Rattle.answers.specs.Answers.{longest_text};
 ghost use Rattle.queue_lines.specs.Session.{Goes, Turns, Finishes};
 
 use lines::gather;
+use pieces::Text;
 use replies::respond;
 
 // Where the next byte of a chunk stands, how many bytes of the line are held, and where the text ends.
@@ -29,51 +30,41 @@ pub fn serve(
     requires { (held ≤ room) × (room ≤ length line.old) × (longest_text * length chunk.now ≤ length out.old) }
     ensures { Goes line.old held chunk.now image.old out.old 0 line.new result.held image.new out.new result.end × (result.held ≤ room) × (result.end ≤ length out.old) }
 {
-    let mut next = 0;
-    let mut h = held;
-    let mut end = 0;
-    while next < chunk.len() {
-        let s = serve_line(chunk, next, line, h, image, out, end);
-        next = s.next;
-        h = s.held;
-        end = s.end;
+    let mut s = Served {
+        next: 0,
+        held,
+        end: 0,
+    };
+    // Kept: the step is a line, which `serve_line` finds as it copies it; `split` would look for each newline twice.
+    while s.next < chunk.len() {
+        s = serve_line(chunk, s, line, image, out);
     }
-    Served {
-        next: next,
-        held: h,
-        end: end,
-    }
+    s
 }
 
 // Takes one line on, and answers it where its newline came.
-fn serve_line(
-    chunk: &[u8],
-    from: usize,
-    line: &mut [u8],
-    held: usize,
-    image: &mut [u64],
-    out: &mut [u8],
-    at: usize,
-) -> Served
-    requires { (from < length chunk.now) × (held ≤ room) × (room ≤ length line.old) × (at + longest_text ≤ length out.old) }
-    ensures { Turns chunk.now from line.old held image.old out.old at result line.new image.new out.new }
+fn serve_line(chunk: &[u8], s: Served, line: &mut [u8], image: &mut [u64], out: &mut [u8]) -> Served
+    requires { (s.next < length chunk.now) × (s.held ≤ room) × (room ≤ length line.old) × (s.end + longest_text ≤ length out.old) }
+    ensures { Turns chunk.now s.next line.old s.held image.old out.old s.end result line.new image.new out.new }
 {
-    let g = gather(chunk, from, line, held);
-    let next = g.next;
-    let h = g.held;
-    let ended = g.ended;
-    if !ended {
-        return Served {
-            next: next,
-            held: h,
-            end: at,
+    let g = gather(chunk, s.next, line, s.held);
+    if g.ended {
+        let mut text = Text {
+            bytes: out,
+            end: s.end,
         };
-    }
-    let end = respond(&line[..h], image, out, at);
-    Served {
-        next: next,
-        held: 0,
-        end: end,
+        respond(&line[..g.held], image, &mut text);
+        Served {
+            next: g.next,
+            held: 0,
+            end: text.end,
+        }
+    } else {
+        Served {
+            next: g.next,
+            held: g.held,
+            end: s.end,
+        }
     }
 }
 
@@ -82,8 +73,11 @@ pub fn finish(line: &[u8], held: usize, image: &mut [u64], out: &mut [u8]) -> us
     requires { (held ≤ room) × (room ≤ length line.now) × (longest_text ≤ length out.old) }
     ensures { ((l : List ℕ) → Holds line.now l held → Finishes l image.old out.old image.new out.new result) × (result ≤ longest_text) }
 {
-    if held < 1 {
+    let last = &line[..held];
+    if last.is_empty() {
         return 0;
     }
-    respond(&line[..held], image, out, 0)
+    let mut text = Text::new(out);
+    respond(last, image, &mut text);
+    text.end
 }

@@ -17,11 +17,10 @@ use Rattle.rules.specs.Sound.{Asc}
 use Rattle.rules.specs.Heap.{Level}
 use Rattle.rules.specs.Cuts.{cut, span}
 use Rattle.rules.specs.Pair.{ROWS, OPEN}
-use Rattle.layout.specs.Words.{words}
 use Rattle.layout.specs.Image.{stack, Roomy}
 use Rattle.layout.proofs.Image.{length_area}
 use Rattle.plain.proofs.Every.{every-sift}
-use Rattle.rules.proofs.Sort.{count, rank, under_suc, count-span, cut_rank, cut_mono, at_le_cut, rank_least}
+use Rattle.rules.proofs.Sort.{rank, under_suc, count-span, cut_rank, cut_mono, at_le_cut, rank_least}
 use Rattle.at_work.specs.AtWork.{at_work, level_place, work_place}
 use Rattle.at_work.proofs.Places.{working_length, work_elements, work_store, level_fill}
 use Rattle.split.specs.Split.{stays, goes, tagged, Parted}
@@ -93,10 +92,12 @@ pub record Dealing (d : Deck) (j k e w : ℕ) (img c : List ℕ) : Type 0 where
   pub long : length c ≡ ROWS
   pub count : (i : ℕ) → j ≤ i → i < k → get_or c i 0 ≡ length (share d.bound d.elements i)
 
-pub down : (d : Deck) (j i k e w : ℕ) (img c : List ℕ) → j ≡ suc i → Dealing d j k e w img c → Dealing d (suc i) k e w img c
-down d j i k e w img c q g = subst (λ (z : ℕ). Dealing d z k e w img c) q g
+pub down : {d : Deck} {j k e w : ℕ} {img c : List ℕ} → 0 < j → Dealing d j k e w img c → Dealing d (suc (j - 1)) k e w img c
+down {d} {j} {k} {e} {w} {img} {c} h g =
+    let q : j ≡ suc (j - 1) = omega arith in
+    subst (λ (z : ℕ). Dealing d z k e w img c) q g
 
-module _ (d : Deck) (xs : List ℕ) (first work m k width : ℕ) (p : List ℕ) (o : OnDeck d xs first work m k width p) where
+module _ {d : Deck} {xs : List ℕ} {first work m k width : ℕ} {p : List ℕ} (o : OnDeck d xs first work m k width p) where
   abbrev n : ℕ
   n = d.ids
 
@@ -124,7 +125,7 @@ module _ (d : Deck) (xs : List ℕ) (first work m k width : ℕ) (p : List ℕ) 
       }
 
   -- what is left stands in the work area
-  module _ (j e w : ℕ) (img c : List ℕ) (g : Dealing d j k e w img c) where
+  module _ {j e w : ℕ} {img c : List ℕ} (g : Dealing d j k e w img c) where
     abbrev F : List ℕ
     F = stays (rung b E j) E
 
@@ -152,7 +153,7 @@ module _ (d : Deck) (xs : List ℕ) (first work m k width : ℕ) (p : List ℕ) 
     below = omega (arith, length_area j d.levels (filled d j (k - j)) (sym g.size) g.roomy)
 
   -- ---- A TURN: level i is put on
-  module _ (i e w : ℕ) (img c : List ℕ) (g : Dealing d (suc i) k e w img c) (h : suc i ≤ k) (small : k < ROWS) where
+  module _ {i e w : ℕ} {img c : List ℕ} (g : Dealing d (suc i) k e w img c) (h : suc i ≤ k) (small : k < ROWS) where
     abbrev F₁ : List ℕ
     F₁ = stays (rung b E (suc i)) E
 
@@ -176,11 +177,11 @@ module _ (d : Deck) (xs : List ℕ) (first work m k width : ℕ) (p : List ℕ) 
 
     pub split_asks : (work + e ≤ length img) × (to + e ≤ work) × Every (λ q. q < OPEN) (part img work e) × (1 ≤ w / 2) × (w ≤ work + 1)
     split_asks = (
-      omega (arith, img_length (suc i) e w img c g, o.work_is, g.left, few (suc i) e w img c g),
-      omega (arith, to_is, below (suc i) e w img c g, pow-suc 2 i, o.work_is, g.left, few (suc i) e w img c g),
-      rw (stands (suc i) e w img c g) (every-sift (λ q. q < OPEN) (λ q. leb q (rung b E (suc i))) E o.small),
+      omega (arith, img_length g, o.work_is, g.left, few g),
+      omega (arith, to_is, below g, pow-suc 2 i, o.work_is, g.left, few g),
+      rw (stands g) (every-sift (λ q. q < OPEN) (λ q. leb q (rung b E (suc i))) E o.small),
       omega (arith, half, pow_pos i),
-      omega (arith, g.wide, below (suc i) e w img c g, o.work_is, pow_pos i),
+      omega (arith, g.wide, below g, o.work_is, pow_pos i),
     )
 
     size' : i + length (l ∷ ls) ≡ d.levels
@@ -197,12 +198,12 @@ module _ (d : Deck) (xs : List ℕ) (first work m k width : ℕ) (p : List ℕ) 
         let z : k - i ≡ suc (k - suc i) = omega arith in
         rw z refl
 
-    module _ (v r : ℕ) (zs : List ℕ) (v_is : v ≡ rung b E i) (q : Parted r img zs work e to 0 v) where
+    module _ {v r : ℕ} {zs : List ℕ} (v_is : v ≡ rung b E i) (q : Parted r img zs work e to 0 v) where
       stay : stays v (part img work e) ≡ F₀
-      stay = rw (stands (suc i) e w img c g, v_is) (stays-stays (rung b E i) (rung b E (suc i)) E (rung_mono b E o.ascends o.within o.some i))
+      stay = rw (stands g, v_is) (stays-stays (rung b E i) (rung b E (suc i)) E (rung_mono b E o.ascends o.within o.some i))
 
       go_out : tagged 0 (goes v (part img work e)) ≡ share b E i
-      go_out = rw (stands (suc i) e w img c g, v_is) (tagged_none (goes (rung b E i) F₁) ∙ goes-stays (rung b E i) (rung b E (suc i)) E)
+      go_out = rw (stands g, v_is) (tagged_none (goes (rung b E i) F₁) ∙ goes-stays (rung b E i) (rung b E (suc i)) E)
 
       pub both : length F₀ + length (share b E i) ≡ length F₁
       both =
@@ -219,7 +220,7 @@ module _ (d : Deck) (xs : List ℕ) (first work m k width : ℕ) (p : List ℕ) 
           ∙ rw (stay, go_out) refl
           ∙ ap (λ (z : List ℕ). sets (sets z to (share b E i)) work (pad e F₀)) g.words
           ∙ rw (to_is, level_fill n d.levels d.top d.rest i (cut b (2 ^ suc i) E) (share b E i) ls (share_fits b E o.ascends o.within o.some i) d.passed F₁, o.work_is, g.left)
-          (work_store n d.levels d.top d.rest i (l ∷ ls) size' roomy' d.passed F₁ room' (few (suc i) e w img c g) F₀ (omega (arith, both)))
+          (work_store n d.levels d.top d.rest i (l ∷ ls) size' roomy' d.passed F₁ room' (few g) F₀ (omega (arith, both)))
 
       pub r_is : r ≡ length F₀
       r_is = q.kept ∙ ap length stay
@@ -246,15 +247,16 @@ module _ (d : Deck) (xs : List ℕ) (first work m k width : ℕ) (p : List ℕ) 
       }
 
   -- the smallest goes
-  pub dealing_ends : (e w : ℕ) (img c : List ℕ) → Dealing d 0 k e w img c → (work < length img) × Dealt d (set img work 0) k c
-  dealing_ends e w img c g =
+  pub dealing_ends : {j e w : ℕ} {img c : List ℕ} → j ≡ 0 → Dealing d j k e w img c → (work < length img) × Dealt d (set img work 0) k c
+  dealing_ends {j} {e} {w} {img} {c} y h =
+      let g : Dealing d 0 k e w img c = rw y at h in
       let F = stays (rung b E 0) E in
       let one : length F ≡ 1 = rung_last b E o.ascends o.within o.some in
       let z : k - 0 ≡ k = omega arith in
       let W = at_work n d.top d.rest 0 (filled d 0 (k - 0)) d.passed F in
       let zero_word : pad (length F) [] ≡ 0 ∷ [] = ap (λ (x : ℕ). pad x []) one in
-      let s = work_store n d.levels d.top d.rest 0 (filled d 0 (k - 0)) g.size g.roomy d.passed F g.room (few 0 e w img c g) [] (omega arith) in (
-        omega (arith, img_length 0 e w img c g, o.work_is, few 0 e w img c g, one),
+      let s = work_store n d.levels d.top d.rest 0 (filled d 0 (k - 0)) g.size g.roomy d.passed F g.room (few g) [] (omega arith) in (
+        omega (arith, img_length g, o.work_is, few g, one),
         record {
           words =
               ap (λ (x : List ℕ). set x work 0) g.words

@@ -55,7 +55,7 @@ deck d = record {
   passed = d.stop.passed ++ rest_cuts d.stop;
 }
 
-module _ (d : Site) (xs : List ℕ) (r : Halt) (o : OnSite d xs r) where
+module _ {d : Site} {xs : List ℕ} {r : Halt} (o : OnSite d xs r) where
   abbrev n : ℕ
   n = d.ids
 
@@ -137,15 +137,15 @@ module _ (d : Site) (xs : List ℕ) (r : Halt) (o : OnSite d xs r) where
   split_small = rw stands o.pairs
 
   -- ---- with the cuts
-  module _ (p : List ℕ) (q : Ladder (word_at xs 0 r.level) (part xs work m) r.level p) where
+  module _ {p : List ℕ} (q : Ladder (word_at xs 0 r.level) (part xs work m) r.level p) where
     pub ladder_is : Ladder b E s.level p
     ladder_is = rw (bound_is, stands, at_level_lem) at q
 
-    module _ (v : ℕ) (e : v ≡ last_cut (get_or p r.level 0) r.level m (word_at xs 0 r.level)) where
+    module _ {v : ℕ} (e : v ≡ last_cut (get_or p r.level 0) r.level m (word_at xs 0 r.level)) where
       pub v_is : v ≡ c
       v_is = e ∙ rw (bound_is, at_level_lem, ladder_is.at s.level (omega arith), o.landed.elements) (last_is b E s.level)
 
-      module _ (kept : ℕ) (zs : List ℕ) (k : Parted kept xs zs work m end SINK v) where
+      module _ {kept : ℕ} {zs : List ℕ} (k : Parted kept xs zs work m end SINK v) where
         abbrev F : List ℕ
         F = stays (rung b E s.level) E
 

@@ -37,9 +37,7 @@ fn deal(
     let mut c = [0u64; Header::ROWS];
     let mut e = m;
     let mut w = width;
-    let mut j = k;
-    while 0 < j {
-        j -= 1;
+    for j in (0..k).rev() {
         w /= 2;
         let t = split::split(img, work, e, first + (w - 1), 0, p[j]);
         c[j] = (e - t) as u64;
@@ -53,13 +51,7 @@ fn deal(
 fn last_cut(pk: u64, k: usize, m: usize, b: u64) -> u64
     ensures { result ≡ last_cut pk k m b }
 {
-    if 0 < k {
-        return pk;
-    }
-    if m <= 1 {
-        return b;
-    }
-    pk
+    if k == 0 && m <= 1 { b } else { pk }
 }
 
 // "if more than 2^k elements are there, keep the 2^k smallest; the rest become Sinks at the end of level k+1's updates, in ascending id"; the
@@ -68,21 +60,18 @@ pub fn refill(img: &mut [u64], r: Halt) -> Refilled
     requires { SomeSite img.old r }
     ensures { RefillsAny img.old img.new r result }
 {
-    let k = r.level;
-    let m = r.elements;
     let first = img[places::ELEMENTS_AT] as usize;
     let work = img[places::WORK_AT] as usize;
     let end = r.at + r.passed;
-    let row = header::row_at(img, k);
-    let b = row.bound;
-    let cuts = cuts::cuts(img, work, m, end, k, b);
-    let bound = last_cut(cuts[k], k, m, b);
-    let kept = split::split(img, work, m, end, Update::SINK_TAG, bound);
-    let counts = deal(img, first, work, kept, k, r.width, cuts);
+    let b = header::row_at(img, r.level).bound;
+    let cuts = cuts::cuts(img, work, r.elements, end, r.level, b);
+    let bound = last_cut(cuts[r.level], r.level, r.elements, b);
+    let kept = split::split(img, work, r.elements, end, Update::SINK_TAG, bound);
+    let counts = deal(img, first, work, kept, r.level, r.width, cuts);
     Refilled {
         cuts,
         counts,
         bound,
-        sunk: m - kept,
+        sunk: r.elements - kept,
     }
 }

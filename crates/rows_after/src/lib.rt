@@ -1,11 +1,11 @@
 // The header brought up to date after a stop, before it is stored back: the rows of the levels 0 to k, and of level k+1, which waits with more.
 #![tactic(auto)]
 
-ghost use Rattle.std.specs.Prelude.{◌≡◌, ◌<◌, ◌≤◌, suc, length};
+ghost use Rattle.std.specs.Prelude.{◌<◌, ◌≤◌, suc};
 ghost use Rattle.rules.specs.Pair.{ROWS};
 ghost use Rattle.rows_after.specs.Rows.{MoreFits, Refreshed, RowsAfter};
 
-use header::Header;
+use header::{Header, Row};
 
 // The rows of the levels below k: the bounds are the cuts p, the element counts are given, no updates are left.
 fn rows_below(
@@ -15,17 +15,15 @@ fn rows_below(
     k: usize,
     waiting: u64,
 ) -> Header
-    requires { (k < ROWS) × (length h.bounds ≡ ROWS) × (length h.element_counts ≡ ROWS) × (length h.update_counts ≡ ROWS) }
+    requires { k < ROWS }
     ensures { Refreshed h result p counts k waiting }
 {
     let mut g = h;
     g.waiting = waiting;
-    let mut j = 0;
-    while j < k {
+    for j in 0..k {
         g.bounds[j] = p[j + 1];
         g.element_counts[j] = counts[j];
         g.update_counts[j] = 0;
-        j += 1;
     }
     g
 }
@@ -42,16 +40,20 @@ pub fn rows_after(
     added: u64,
     waiting: u64,
 ) -> Header
-    requires { (k ≤ next) × (next ≤ suc k) × (next < ROWS) × MoreFits h k next added × (length h.bounds ≡ ROWS) × (length h.element_counts ≡ ROWS) × (length h.update_counts ≡ ROWS) }
+    requires { (k ≤ next) × (next ≤ suc k) × (next < ROWS) × MoreFits h k next added }
     ensures { RowsAfter h result p counts k v next added waiting }
 {
     let below = rows_below(h, p, counts, k, waiting);
-    let g = header::row_changed(below, k, v, 0, 0);
-    header::row_changed(
-        g,
-        next,
-        g.bounds[next],
-        g.element_counts[next],
-        g.update_counts[next] + added,
-    )
+    let emptied = Row {
+        bound: v,
+        elements: 0,
+        updates: 0,
+    };
+    let g = header::row_changed(below, k, emptied);
+    let fuller = Row {
+        bound: g.bounds[next],
+        elements: g.element_counts[next],
+        updates: g.update_counts[next] + added,
+    };
+    header::row_changed(g, next, fuller)
 }

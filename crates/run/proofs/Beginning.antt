@@ -1,15 +1,16 @@
 -- The start: every word is the unreached mark but the source's, which is 0, and the source alone waits in a fresh image.
 -- Assumes nothing.
-use Prim.Native.Nat.{ℕ, ◌+◌, ◌<◌, ◌≤◌}
+use Prim.Native.Nat.{ℕ, zero, suc, ◌+◌, ◌<◌, ◌≤◌}
 use mathlib.Core.Logic.{◌≢◌}
 use mathlib.Core.List.{List, ◌++◌}
 use mathlib.Core.Path.{◌≡◌, refl, sym, ap, ◌∙◌}
 use native.Mathlib.Numerals.{add-one}
 use native.Mathlib.Omega.{arith}
 use borrow.Author.Tests.{eq-eqb, ne_eqb}
-use lib.ListN.{length, set, drop}
+use lib.ListN.{length, set, take, drop, replicate}
+use Rattle.std.proofs.Common.{length-take-le}
+use Rattle.std.proofs.lemmas.List.{replicate-append-replicate}
 use lib.Seq.{sets, sets-eq}
-use Rattle.lists.specs.Put.{put_snoc}
 use Rattle.rules.specs.Pair.{InRange, pair_of, key_of, id_of, levels}
 use Rattle.rules.specs.Update.{Held, absent, decrease}
 use Rattle.rules.specs.Heap.{Level, live}
@@ -30,11 +31,15 @@ use Rattle.run.proofs.Queue.{queued_push}
 abbrev pub none : ℕ → Held
 none x = absent
 
--- one more word is the mark
-pub fill_turn : (ds : List ℕ) (k : ℕ) → set (sets ds 0 (distance_words k none)) k UNREACHED ≡ sets ds 0 (distance_words (k + 1) none)
-fill_turn ds k =
-    let l : 0 + length (distance_words k none) ≡ k = omega (arith, words-length k none) in
-    rw (add-one k, put_snoc (distance_words k none) ds 0 UNREACHED, l) refl
+-- words that are all the mark are those of a run that has reached nothing
+unreached_words : (n : ℕ) → replicate n UNREACHED ≡ distance_words n none
+unreached_words zero = refl
+unreached_words (suc n) = rw (← unreached_words n) (sym (replicate-append-replicate n 1 UNREACHED ∙ ap (λ (k : ℕ). replicate k UNREACHED) (add-one n)))
+
+pub words_filled : (ys ds : List ℕ) (n : ℕ) → n ≤ length ds → ys ≡ replicate (length (take n ds)) UNREACHED → ys ++ drop n ds ≡ sets ds 0 (distance_words n none)
+words_filled ys ds n h e =
+    let l : 0 + length (distance_words n none) ≡ n = omega (arith, words-length n none) in
+    rw (e, length-take-le n ds h, unreached_words n, sets-eq (distance_words n none) ds 0 (omega (arith, l)), l) refl
 
 module _ (n : ℕ) (range : InRange n) (source : ℕ) (below : source < n) (ds ws : List ℕ) (long : n ≤ length ds) where
   filled : sets ds 0 (distance_words n none) ≡ distance_words n none ++ drop n ds

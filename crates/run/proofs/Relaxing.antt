@@ -10,9 +10,10 @@ use lib.Seq.{take-suc, take_all}
 use Rattle.rules.specs.Update.{Held}
 use Rattle.walks.specs.Rows.{Half, Has}
 use Rattle.walks.specs.Settling.{offer, relax}
-use Rattle.sheet_format.specs.Sheet.{row}
-use Rattle.sheet_words.specs.Places.{RowAt, TargetAt, WeightAt}
-use Rattle.sheet_words.proofs.Halves.{half_has}
+use Rattle.sheet_format.specs.Numbers.{word}
+use Rattle.sheet_format.specs.Sheet.{halves}
+use Rattle.sheet_words.specs.Places.{TargetAt, WeightAt}
+use Rattle.sheet_words.proofs.Halves.{length-halves, get_or-halves, has_nth}
 use Rattle.run.specs.Underway.{State, Underway}
 use Rattle.run.specs.Turns.{offered, relaxed}
 
@@ -36,15 +37,16 @@ module _ (n : ℕ) (t : State) (d : ℕ) (r : List Half) (ds ws : List ℕ) wher
   pub relax_ends : (j : ℕ) → length r ≤ j → Underway n (relaxed t d (take j r)) ds ws → Underway n (relaxed t d r) ds ws
   relax_ends j h u = subst (λ (k : List Half). Underway n (relaxed t d k) ds ws) (take_all j r h) u
 
--- ---- a row of a sheet
+-- ---- a row where it stands
 
-module _ (s : List ℕ) (u first count : ℕ) (at : RowAt s u first count) (j : ℕ) (small : j < count) (v w : ℕ) (to : TargetAt s first j v) (by : WeightAt s first j w) where
+module _ (s : List ℕ) (first count j : ℕ) (small : j < count) (v w : ℕ) (to : TargetAt s first j v) (by : WeightAt s first j w) where
   -- what is read there is a half-edge of the row
-  pub row_has : Has (row s u) v w
-  row_has = rw (to.in_row u count at small, by.in_row u count at small) (half_has s u first count j at small)
+  pub row_has : Has (halves (word s) first count) v w
+  row_has = rw (to.is_word, by.is_word) (has_nth (word s) first count j small)
 
-  pub row_turn : (n : ℕ) (t : State) (d : ℕ) (ds ws : List ℕ) → Underway n (offered (relaxed t d (take j (row s u))) d v w) ds ws
-      → Underway n (relaxed t d (take (j + 1) (row s u))) ds ws
+  pub row_turn : (n : ℕ) (t : State) (d : ℕ) (ds ws : List ℕ) → Underway n (offered (relaxed t d (take j (halves (word s) first count))) d v w) ds ws
+      → Underway n (relaxed t d (take (j + 1) (halves (word s) first count))) ds ws
   row_turn n t d ds ws g =
-      relax_turn n t d (row s u) ds ws (record { target = 0; weight = 0 }) j (omega (arith, at.counted))
-      (rw (← to.in_row u count at small, ← by.in_row u count at small) g)
+      let none : Half = record { target = 0; weight = 0 } in
+      relax_turn n t d (halves (word s) first count) ds ws none j (omega (arith, length-halves (word s) first count))
+      (rw (get_or-halves (word s) first count j none small, ← to.is_word, ← by.is_word) g)

@@ -3,7 +3,7 @@
 // vertex is never offered less than its distance, which of the two it is need not be told.
 #![tactic(auto)]
 
-ghost use Rattle.std.specs.Prelude.{◌≡◌, ◌<◌, ◌≤◌, length};
+ghost use Rattle.std.specs.Prelude.{◌≡◌, ℕ, ◌<◌, ◌≤◌, length};
 ghost use Rattle.std.proofs.lemmas.List.Edits.{sets};
 ghost use Rattle.rules.specs.Pair.{InRange};
 ghost use Rattle.rules.specs.Update.{absent};
@@ -11,30 +11,23 @@ ghost use Rattle.layout.specs.Image.{need};
 ghost use Rattle.walks.specs.Walks.{distance_words};
 ghost use Rattle.sheet_format.specs.Sheet.{row};
 ghost use Rattle.sheet_words.specs.Places.{Rowed};
+ghost use Rattle.sheet_words.specs.Rows.{half_edges_of};
 ghost use Rattle.runs.specs.Run.{RunMeets};
 ghost use Rattle.run.specs.Answer.{ran_to};
 ghost use Rattle.run.specs.Turns.{SomeOffer, Offers, SomeRow, Relaxes, SomeTurn, Turns, Started, Ready, Runs, SomeSheet};
 
 use delete_min::Popped;
 use pair::Pair;
-use sheet::Acceptance;
-
-// "returns the number reached"; "A refusal returns its number alone".
-#[derive(Clone, Copy)]
-pub enum RunAnswer {
-    Reached(u64),
-    Refused(u64),
-}
+use refusals::Refusal;
+use sheet_words::Row;
 
 // "The run writes n distances; unreached is 2^40. It .. returns the number reached, and leaves a fresh image for n." Refusals 11 to 17 of the sheet, 18, 2.
-pub fn distances(sheet: &[u8], distances: &mut [u64], image: &mut [u64]) -> RunAnswer
+// "returns the number reached"; "A refusal returns its number alone".
+pub fn distances(sheet: &[u8], distances: &mut [u64], image: &mut [u64]) -> Result<u64, Refusal>
     ensures { RunMeets sheet.now distances.old image.old (ran_to result distances.new image.new) }
 {
-    let a = sheet::accept(sheet);
-    match a {
-        Acceptance::Refused(k) => RunAnswer::Refused(k),
-        Acceptance::Sheet { n, source, .. } => run_on(sheet, n, source, distances, image),
-    }
+    let accepted = sheet::accept(sheet)?;
+    run_on(sheet, accepted.n, accepted.source, distances, image)
 }
 
 // The run over an accepted sheet: "18: distance slice shorter than n (then 2 for the image)".
@@ -44,20 +37,19 @@ fn run_on(
     source: usize,
     distances: &mut [u64],
     image: &mut [u64],
-) -> RunAnswer
+) -> Result<u64, Refusal>
     requires { SomeSheet sheet.now n source }
     ensures { RunMeets sheet.now distances.old image.old (ran_to result distances.new image.new) }
 {
     if distances.len() < n {
-        return RunAnswer::Refused(18);
+        return Err(Refusal::ShortDistances);
     }
     let need = fresh_image::need_of(n);
     if image.len() < need {
-        return RunAnswer::Refused(2);
+        return Err(Refusal::ShortImage);
     }
     begin(distances, image, n, source);
-    let reached = settle_all(sheet, n, distances, image);
-    RunAnswer::Reached(reached)
+    Ok(settle_all(sheet, n, distances, image))
 }
 
 // The start: nothing is settled, and the source alone waits, at distance 0, in a fresh image.
@@ -76,11 +68,7 @@ fn fill(distances: &mut [u64], n: usize)
     requires { n ≤ length distances.old }
     ensures { distances.new ≡ sets distances.old 0 (distance_words n (λ _. absent)) }
 {
-    let mut x = 0;
-    while x < n {
-        distances[x] = Pair::KEY_LIMIT;
-        x += 1;
-    }
+    distances[..n].fill(Pair::KEY_LIMIT);
 }
 
 // Settles again and again until nothing waits. The number reached.
@@ -89,6 +77,7 @@ fn settle_all(sheet: &[u8], n: usize, distances: &mut [u64], image: &mut [u64]) 
     ensures { Runs sheet.now distances.old image.old result distances.new image.new }
 {
     let mut reached = 0;
+    // Kept: no range and no iterator; how often it settles is what the loop finds out.
     while settle(sheet, n, distances, image) {
         reached += 1;
     }
@@ -104,26 +93,22 @@ fn settle(sheet: &[u8], n: usize, distances: &mut [u64], image: &mut [u64]) -> b
     match p {
         Popped::Empty { .. } => false,
         Popped::Min { id, key, .. } => {
-            relax(sheet, n, distances, image, id as usize, key);
+            let row = sheet_words::row_at(sheet, n, id as usize);
+            relax(row, distances, image, key);
             true
         }
     }
 }
 
-// Offers the half-edges of u's row, from distance d on.
-fn relax(sheet: &[u8], n: usize, distances: &mut [u64], image: &mut [u64], u: usize, d: u64)
-    requires { (Rowed sheet.now n) × (u < n) × SomeRow n d (row sheet.now u) distances.old image.old }
-    ensures { Relaxes n d (row sheet.now u) distances.old image.old distances.new image.new }
+// Offers the half-edges of a row, from distance d on.
+fn relax(row: Row<'_>, distances: &mut [u64], image: &mut [u64], d: u64)
+    requires { (n : ℕ) × SomeRow n d (half_edges_of row) distances.old image.old }
+    ensures { (n : ℕ) → Relaxes n d (half_edges_of row.entry) distances.old image.old distances.new image.new }
 {
-    let at = sheet_words::row_at(sheet, n, u);
-    let first = at.first;
-    let count = at.count;
-    let mut j = 0;
-    while j < count {
-        let v = sheet_words::target_at(sheet, first, j);
-        let w = sheet_words::weight_at(sheet, first, j);
+    for j in 0..row.count {
+        let v = row.target(j);
+        let w = row.weight(j);
         offer(distances, image, d, v, w as u64);
-        j += 1;
     }
 }
 

@@ -1,4 +1,4 @@
--- What the answer `Sheet { n, h, source }` of `accept` gives to a caller: the page's statements of the sheet, and what reading its rows relies on.
+-- What the answer `Ok(Sheet { n, h, source })` of `accept` gives to a caller: the page's statements of the sheet, and what reading its rows relies on.
 -- Not here: that the answer gives it (`sheet_given`, proofs). Read Accepted (Rattle.sheet_format.specs) and Places (Rattle.sheet_words.specs) first.
 -- Assumes nothing.
 use Rattle.std.specs.Prelude.{ℕ, ◌<◌, List, ◌≡◌}

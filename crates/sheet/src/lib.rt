@@ -3,48 +3,51 @@
 #![tactic(auto)]
 
 ghost use Rattle.std.specs.Prelude.{◌≡◌};
+ghost use Rattle.refusals.specs.Numbers.{numbered};
 ghost use Rattle.sheet.specs.Answer.{accept_of};
 
+use refusals::Refusal;
 use sheet_words::{HALF_EDGES_AT, HEAD_BYTES, SOURCE_AT, VERTICES_AT};
 
-// A sheet that is accepted: its n and h, and the vertex that its source stands for. "A refusal returns its number alone."
+// A sheet that is accepted: its n and h, and the vertex that its source stands for.
 #[derive(Clone, Copy)]
-pub enum Acceptance {
-    Sheet { n: usize, h: usize, source: usize },
-    Refused(u64),
+pub struct Sheet {
+    pub n: usize,
+    pub h: usize,
+    pub source: usize,
 }
 
 // Judges a sheet. Refusals 11 to 17, "in order of test"; "Each number is tested over the whole input before the next."
-pub fn accept(s: &[u8]) -> Acceptance
-    ensures { result ≡ accept_of s.now }
+pub fn accept(s: &[u8]) -> Result<Sheet, Refusal>
+    ensures { numbered result ≡ accept_of s.now }
 {
     if s.len() < HEAD_BYTES {
-        return Acceptance::Refused(11);
+        return Err(Refusal::SheetLength);
     }
     if sheet_tests::out_of_range(s) {
-        return Acceptance::Refused(12);
+        return Err(Refusal::SheetCounts);
     }
     if sheet_tests::misfits(s) {
-        return Acceptance::Refused(11); // "judged after 12"
+        return Err(Refusal::SheetLength); // "judged after 12"
     }
     let n = sheet_words::word_at(s, VERTICES_AT);
     let h = sheet_words::word_at(s, HALF_EDGES_AT);
     let v = sheet_words::word_at(s, SOURCE_AT);
     if sheet_words::wrong_source(n, v) {
-        return Acceptance::Refused(13);
+        return Err(Refusal::Source);
     }
     if sheet_tests::wrong_starts(s, n) {
-        return Acceptance::Refused(14);
+        return Err(Refusal::RowStarts);
     }
     if sheet_tests::wrong_targets(s, n) {
-        return Acceptance::Refused(15);
+        return Err(Refusal::Targets);
     }
     if sheet_tests::wrong_weights(s, n) {
-        return Acceptance::Refused(16);
+        return Err(Refusal::Weights);
     }
     if sheet_sides::one_sided(s, n) {
-        return Acceptance::Refused(17);
+        return Err(Refusal::OneSided);
     }
     let source = sheet_words::chosen_source(n, v);
-    Acceptance::Sheet { n, h, source }
+    Ok(Sheet { n, h, source })
 }

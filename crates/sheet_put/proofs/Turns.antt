@@ -6,7 +6,7 @@ use mathlib.Core.Path.{◌≡◌, refl, sym, ap, ◌∙◌}
 use native.Mathlib.Numerals.{add-one}
 use native.Mathlib.Omega.{arith}
 use borrow.Author.Tests.{lt-ltb, le-ltb}
-use lib.ListN.{length, set, take, get_or, length-append}
+use lib.ListN.{length, take, get_or, length-append}
 use lib.Seq.{sets, take-suc, length-take-le}
 use Rattle.lists.specs.Put.{put-append}
 use Rattle.sheet_format.specs.Numbers.{bytes_of}
@@ -17,15 +17,6 @@ use Rattle.sheet_order.specs.Words.{row_of, target_of, weight_of, row_in, halves
 use Rattle.sheet_order.proofs.Sorted.{under, under_none, before_under}
 use Rattle.sheet_order.proofs.InOrder.{written-in_order, length-in_order}
 use Rattle.sheet_put.specs.Sheet.{head_of, row_ends, sheet_of, RowEnd}
-
--- four stores are the number's bytes
-pub four : (t : List ℕ) (at v : ℕ)
-    → set (set (set (set t at (v % 256)) (at + 1) (v / 256 % 256)) (at + 2) (v / 65536 % 256)) (at + 3) (v / 16777216 % 256) ≡ sets t at (bytes_of (v ∷ []))
-four t at v =
-    let a : at + 1 ≡ suc at = omega arith in
-    let b : at + 2 ≡ suc (suc at) = omega arith in
-    let c : at + 3 ≡ suc (suc (suc at)) = omega arith in
-    rw (a, b, c)
 
 bytes_append : (a b : List ℕ) → bytes_of (a ++ b) ≡ bytes_of a ++ bytes_of b
 bytes_append [] b = refl

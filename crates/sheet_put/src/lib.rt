@@ -2,7 +2,7 @@
 // words make is `sheet_of`; that it is the sheet of edge records, where the words are theirs in order, is the law `sheet_written`.
 #![tactic(auto)]
 
-ghost use Rattle.std.specs.Prelude.{◌≡◌, [], ◌∷◌, ℕ, ◌+◌, ◌*◌, ◌%◌, ◌<◌, ◌≤◌, length, get_or};
+ghost use Rattle.std.specs.Prelude.{◌≡◌, [], ◌∷◌, ℕ, ◌+◌, ◌*◌, ◌<◌, ◌≤◌, length, get_or};
 ghost use Rattle.std.proofs.lemmas.List.Edits.{sets};
 ghost use Rattle.sheet_format.specs.Numbers.{most_vertices, head_bytes, word_bytes, bytes_of};
 ghost use Rattle.sheet_format.specs.Sheet.{rows_at, sheet_length};
@@ -10,28 +10,16 @@ ghost use Rattle.sheet_format.specs.Writer.{pairs, starts};
 ghost use Rattle.sheet_order.specs.Words.{row_of, row_in, halves_of, Rises};
 ghost use Rattle.sheet_put.specs.Sheet.{head_of, row_ends, sheet_of, RowEnd};
 
-use sheet_words::{HEAD_BYTES, WORD_BYTES};
+use sheet_words::{
+    HALF_EDGES_AT, HEAD_BYTES, ROWS_OFFSET_AT, SOURCE_AT, STARTS_AT, STARTS_OFFSET_AT, VERTICES_AT,
+    WORD_BYTES,
+};
 
 // A target or a weight is below this.
 pub const BASE: u64 = 65536;
 
-// The row starts stand behind the five numbers of the header; the row u ends where the next start, u behind this one, says.
-const STARTS_AT: usize = 5;
-
-const ENDS_AT: usize = 6;
-
-// A byte is below this; two bytes; three.
-const BYTE: usize = 256;
-
-const TWO_BYTES: usize = 65536;
-
-const THREE_BYTES: usize = 16777216;
-
-fn low(v: usize) -> u8
-    ensures { result ≡ v % 256 }
-{
-    (v % BYTE) as u8
-}
+// The row starts stand behind the header; the row u ends where the next start, u behind this one, says.
+const ENDS_AT: usize = STARTS_AT + 1;
 
 // The k-th number of the target becomes v, its lowest byte first.
 fn put_word(t: &mut [u8], k: usize, v: usize)
@@ -39,10 +27,12 @@ fn put_word(t: &mut [u8], k: usize, v: usize)
     ensures { t.new ≡ sets t.old (word_bytes * k) (bytes_of (v ∷ [])) }
 {
     let at = WORD_BYTES * k;
-    t[at] = low(v);
-    t[at + 1] = low(v / BYTE);
-    t[at + 2] = low(v / TWO_BYTES);
-    t[at + 3] = low(v / THREE_BYTES);
+    let bytes = v.to_le_bytes();
+    // Kept: four stores; with copy_from_slice the loop of put_halves is not vectorized, and a whole call on 400 records took 1.14 times as long.
+    t[at] = bytes[0];
+    t[at + 1] = bytes[1];
+    t[at + 2] = bytes[2];
+    t[at + 3] = bytes[3];
 }
 
 // The half-edges of the words, each as its target and weight, from the k-th number on.
@@ -50,12 +40,9 @@ fn put_halves(t: &mut [u8], k: usize, words: &[u64])
     requires { word_bytes * (k + 2 * length words.now) ≤ length t.old }
     ensures { t.new ≡ sets t.old (word_bytes * k) (bytes_of (pairs (halves_of words.now))) }
 {
-    let mut j = 0;
-    while j < words.len() {
-        let x = words[j];
-        put_word(t, k + 2 * j, (x / BASE % BASE) as usize);
-        put_word(t, k + 2 * j + 1, (x % BASE) as usize);
-        j += 1;
+    for (j, x) in words.iter().enumerate() {
+        put_word(t, k + 2 * j, (*x / BASE % BASE) as usize);
+        put_word(t, k + 2 * j + 1, (*x % BASE) as usize);
     }
 }
 
@@ -64,15 +51,12 @@ fn row_end(words: &[u64], j: usize, u: usize) -> usize
     requires { (j ≤ length words.now) × ((i : ℕ) → i < j → row_of (get_or words.now i 0) < u + 1) }
     ensures { RowEnd words.now u result }
 {
-    let mut r = j;
-    while r < words.len() {
-        let x = words[r];
-        if (u as u64) < x / BASE / BASE {
+    for r in j..words.len() {
+        if (u as u64) < words[r] / BASE / BASE {
             return r;
         }
-        r += 1;
     }
-    r
+    words.len()
 }
 
 // The row starts 1 to n of words in order: each is the end of the row before.
@@ -81,11 +65,9 @@ fn put_ends(t: &mut [u8], n: usize, words: &[u64])
     ensures { t.new ≡ sets t.old (head_bytes + word_bytes) (bytes_of (row_ends words.now n)) }
 {
     let mut j = 0;
-    let mut u = 0;
-    while u < n {
+    for u in 0..n {
         j = row_end(words, j, u);
         put_word(t, ENDS_AT + u, j);
-        u += 1;
     }
 }
 
@@ -103,11 +85,11 @@ fn put_header(t: &mut [u8], n: usize, h: usize, v: usize)
     requires { (head_bytes ≤ length t.old) × (n ≤ most_vertices) }
     ensures { t.new ≡ sets t.old 0 (bytes_of (head_of n h v)) }
 {
-    put_word(t, 0, n);
-    put_word(t, 1, h);
-    put_word(t, 2, HEAD_BYTES);
-    put_word(t, 3, HEAD_BYTES + WORD_BYTES * (n + 1));
-    put_word(t, 4, v);
+    put_word(t, VERTICES_AT, n);
+    put_word(t, HALF_EDGES_AT, h);
+    put_word(t, STARTS_OFFSET_AT, HEAD_BYTES);
+    put_word(t, ROWS_OFFSET_AT, sheet_words::rows_offset(n));
+    put_word(t, SOURCE_AT, v);
 }
 
 // The whole sheet from words in order.

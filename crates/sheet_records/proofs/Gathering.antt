@@ -30,11 +30,11 @@ gather_turn xs n es i h =
 
 -- ---- the records of three slices
 
-pub length-edges : (a b w : List ℕ) → length (edges_of a b w) ≡ min (length a) (min (length b) (length w))
-length-edges [] b w = omega arith
-length-edges (x ∷ a) [] w = omega arith
-length-edges (x ∷ a) (y ∷ b) [] = omega arith
-length-edges (x ∷ a) (y ∷ b) (z ∷ w) = omega (arith, length-edges a b w)
+pub length_edges : (a b w : List ℕ) → length (edges_of a b w) ≡ min (length a) (min (length b) (length w))
+length_edges [] b w = omega arith
+length_edges (x ∷ a) [] w = omega arith
+length_edges (x ∷ a) (y ∷ b) [] = omega arith
+length_edges (x ∷ a) (y ∷ b) (z ∷ w) = omega (arith, length_edges a b w)
 
 pub edges_at : (a b w : List ℕ) (i : ℕ) → i < length (edges_of a b w)
     → get_or (edges_of a b w) i none ≡ joining (get_or a i 0) (get_or b i 0) (get_or w i 0)

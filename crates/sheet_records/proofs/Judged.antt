@@ -10,7 +10,9 @@ use borrow.Author.Tests.{eqb-true, eqb-false, eq-eqb, ne_eqb}
 use lib.ListN.{length}
 use lib.Seq.{sets}
 use lib.Dec.{leb, eqb}
+use Rattle.std.specs.Prelude.{Result}
 use Rattle.plain.specs.Lists.{sort}
+use Rattle.refusals.specs.declared.Refusal.{Refusal}
 use Rattle.sheet_format.specs.Numbers.{most_vertices, bytes_of}
 use Rattle.sheet_format.specs.Sheet.{wrong_count}
 use Rattle.sheet_format.specs.Writer.{Edge, wrong_ends, stray_ends, heavy_edge, too_heavy, too_many, written, write_refusal, later_target}
@@ -22,7 +24,7 @@ use Rattle.sheet_order.proofs.Sorted.{Small, small}
 use Rattle.sheet_order.proofs.Twice.{twice_exactly}
 use Rattle.sheet_put.specs.Sheet.{sheet_of}
 use Rattle.sheet_put.proofs.Turns.{sheet_written}
-use Rattle.sheet_records.specs.Judged.{HEAVY, STRAY, joining, half_word, judged_words, holds, words_refusal, words_later, Put}
+use Rattle.sheet_records.specs.Judged.{HEAVY, STRAY, joining, half_word, judged_words, holds, words_refusal, words_later, answer_number, Put}
 
 -- ---- one half-edge
 
@@ -135,6 +137,6 @@ module _ (n v : ℕ) (es : List Edge) (many : too_many n es ≡ false) where
       go false e = refl
 
   -- WHAT THE WORDS BRING AND LEAVE
-  pub words_call : (t : List ℕ) (r : ℕ) (later : List ℕ) → Put n v (judged_words n es) t r later
-      → (r ≡ write_refusal n v es (length t)) × (later ≡ later_target n v es t)
+  pub words_call : (t : List ℕ) (r : Result (Unit {0}) Refusal) (later : List ℕ) → Put n v (judged_words n es) t r later
+      → (answer_number r ≡ write_refusal n v es (length t)) × (later ≡ later_target n v es t)
   words_call t r later p = (p.number ∙ words_refusal_lem (length t), p.target ∙ words_later_lem t)

@@ -1,4 +1,4 @@
--- Judged: what the words bring and leave is what the records do. Gathering: records become words. Turns: turns of the loops, and the ways out.
+-- Judged: what the words bring and leave is what the records do. Gathering: records become words. Turns: two words next to each other.
 -- Assumes nothing.
 pub mod Judged
 pub mod Gathering

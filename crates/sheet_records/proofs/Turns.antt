@@ -1,88 +1,42 @@
--- Turns of the loops, and the ways out of `put_records`, as laws on plain values.
+-- One of the words is the mark, and two words next to each other have the same ends, told by place (holds_by, doubled_by).
 -- Assumes nothing.
-use Prim.Native.Nat.{ℕ, ◌+◌, ◌<◌, ◌≤◌}
-use mathlib.Core.Bool.{true, false}
+use Prim.Native.Nat.{ℕ, zero, suc, ◌+◌, ◌<◌}
+use mathlib.Core.Bool.{Bool, true, false}
+use Rattle.std.proofs.Math.Bool.{or-true}
 use mathlib.Core.Logic.{◌≢◌}
 use mathlib.Core.List.{List, [], ◌∷◌}
-use mathlib.Core.Path.{◌≡◌, refl}
+use mathlib.Core.Path.{◌≡◌, refl, sym}
 use native.Mathlib.Numerals.{add-one}
 use native.Mathlib.Omega.{arith}
-use borrow.Author.Tests.{eq-eqb, ne_eqb, lt-ltb, le-ltb}
-use lib.ListN.{length, get_or, drop, length-drop, drop_of_length-le}
-use lib.Seq.{sets, drop-cons}
-use lib.Dec.{ltb, eqb}
-use Rattle.plain.specs.Lists.{sort}
-use Rattle.sheet_format.specs.Numbers.{bytes_of}
-use Rattle.sheet_format.specs.Sheet.{sheet_length, wrong_source}
-use Rattle.sheet_put.specs.Sheet.{sheet_of}
-use Rattle.sheet_order.specs.Words.{ends_of, next_same, doubled}
-use Rattle.sheet_records.specs.Judged.{HEAVY, STRAY, holds, words_refusal, words_later, Put}
+use borrow.Author.Tests.{eq-eqb, ne_eqb}
+use lib.ListN.{length, get_or}
+use lib.Dec.{eqb}
+use Rattle.std.specs.Prelude.{MatchBool}
+use Rattle.std.proofs.lemmas.List.Folds.{list_any_at}
+use Rattle.sheet_order.specs.Words.{ends_of, doubled}
+use Rattle.sheet_records.specs.Judged.{holds}
 
--- ---- one of the words is the mark
-
-pub holds_here : (m i : ℕ) (l : List ℕ) → i < length l → get_or l i 0 ≡ m → holds m (drop i l) ≡ true
-holds_here m i l h e = rw (drop-cons l i 0 h, eq-eqb (get_or l i 0) m e)
-
-pub holds_past : (m i : ℕ) (l : List ℕ) → i < length l → get_or l i 0 ≢ m → holds m (drop i l) ≡ holds m (drop (i + 1) l)
-holds_past m i l h e = rw (drop-cons l i 0 h, ne_eqb (get_or l i 0) m e, add-one i)
-
-pub holds_none : (m i : ℕ) (l : List ℕ) → length l ≤ i → holds m (drop i l) ≡ false
-holds_none m i l h = rw (drop_of_length-le l {i = i} h)
-
--- ---- two words next to each other have the same ends
-
--- the words from i on, where two are left
-last_two : (i : ℕ) (l : List ℕ) → i + 1 < length l → drop i l ≡ get_or l i 0 ∷ drop (i + 1) l
-last_two i l h = rw (add-one i) (drop-cons l i 0 (omega arith))
-
-next_is : (x i : ℕ) (l : List ℕ) → i < length l → next_same x (drop i l) ≡ eqb (ends_of x) (ends_of (get_or l i 0))
-next_is x i l h = rw (drop-cons l i 0 h)
-
-pub doubled_here : (i : ℕ) (l : List ℕ) → i + 1 < length l → ends_of (get_or l i 0) ≡ ends_of (get_or l (i + 1) 0) → doubled (drop i l) ≡ true
-doubled_here i l h e = rw (last_two i l h, next_is (get_or l i 0) (i + 1) l h, eq-eqb (ends_of (get_or l i 0)) (ends_of (get_or l (i + 1) 0)) e)
-
-pub doubled_past : (i : ℕ) (l : List ℕ) → i + 1 < length l → ends_of (get_or l i 0) ≢ ends_of (get_or l (i + 1) 0) → doubled (drop i l) ≡ doubled (drop (i + 1) l)
-doubled_past i l h e = rw (last_two i l h, next_is (get_or l i 0) (i + 1) l h, ne_eqb (ends_of (get_or l i 0)) (ends_of (get_or l (i + 1) 0)) e)
-
-pub doubled_none : (i : ℕ) (l : List ℕ) → length l ≤ i + 1 → doubled (drop i l) ≡ false
-doubled_none i l h = go (drop i l) (omega (arith, length-drop i l))
+-- one of the words is the mark
+pub holds_by : (m : ℕ) (l : List ℕ) (r : Bool) → MatchBool r ((k : ℕ) × (k < length l) × (get_or l k 0 ≡ m)) ((k : ℕ) → k < length l → get_or l k 0 ≢ m) → r ≡ holds m l
+holds_by m l true p = sym (list_any_at (λ x. eqb x m) l p.0 0 p.1 (eq-eqb (get_or l p.0 0) m p.2))
+holds_by m l false p = sym (none l p)
   where
-    go : (d : List ℕ) → length d ≤ 1 → doubled d ≡ false
-    go [] k = refl
-    go (x ∷ []) k = refl
-    go (x ∷ y ∷ d) k = absurd (omega arith)
+    none : (l : List ℕ) → ((k : ℕ) → k < length l → get_or l k 0 ≢ m) → holds m l ≡ false
+    none [] f = refl
+    none (x ∷ l) f = rw (ne_eqb x m (f 0 (omega arith))) (none l (λ k h. f (suc k) (omega arith)))
 
--- ---- the ways out of `put_records`
+-- two words next to each other have the same ends
+doubled_true : (l : List ℕ) (k : ℕ) → suc k < length l → ends_of (get_or l k 0) ≡ ends_of (get_or l (suc k) 0) → doubled l ≡ true
+doubled_true [] k h e = absurd (omega arith)
+doubled_true (x ∷ []) k h e = absurd (omega arith)
+doubled_true (x ∷ y ∷ l) zero h e = rw (eq-eqb (ends_of x) (ends_of y) e)
+doubled_true (x ∷ y ∷ l) (suc k) h e = rw (doubled_true (y ∷ l) k (omega arith) e) (or-true (eqb (ends_of x) (ends_of y)))
 
-module _ (n v : ℕ) (l t : List ℕ) where
-  pub stray_put : holds STRAY l ≡ true → Put n v l t 22 t
-  unfolding words_refusal words_later
-  stray_put a = record { number = rw a; target = rw a }
+doubled_false : (l : List ℕ) → ((k : ℕ) → suc k < length l → ends_of (get_or l k 0) ≢ ends_of (get_or l (suc k) 0)) → doubled l ≡ false
+doubled_false [] f = refl
+doubled_false (x ∷ []) f = refl
+doubled_false (x ∷ y ∷ l) f = rw (ne_eqb (ends_of x) (ends_of y) (f 0 (omega arith))) (doubled_false (y ∷ l) (λ k h. f (suc k) (omega arith)))
 
-  module _ (a : holds STRAY l ≡ false) where
-    pub heavy_put : holds HEAVY l ≡ true → Put n v l t 23 t
-    unfolding words_refusal words_later
-    heavy_put b = record { number = rw (a, b); target = rw (a, b) }
-
-    module _ (b : holds HEAVY l ≡ false) where
-      pub twice_put : doubled (sort l) ≡ true → Put n v l t 24 t
-      unfolding words_refusal words_later
-      twice_put c = record { number = rw (a, b, c); target = rw (a, b, c) }
-
-      module _ (c : doubled (sort l) ≡ false) where
-        pub source_put : wrong_source n v ≡ true → Put n v l t 13 t
-        unfolding words_refusal words_later
-        source_put d = record { number = rw (a, b, c, d); target = rw (a, b, c, d) }
-
-        module _ (d : wrong_source n v ≡ false) where
-          pub room_put : length t < sheet_length n (length l) → Put n v l t 25 t
-          unfolding words_refusal words_later
-          room_put h =
-              let e : ltb (length t) (sheet_length n (length l)) ≡ true = lt-ltb (length t) (sheet_length n (length l)) h in
-              record { number = rw (a, b, c, d, e); target = rw (a, b, c, d, e) }
-
-          pub sheet_put : sheet_length n (length l) ≤ length t → Put n v l t 0 (sets t 0 (bytes_of (sheet_of n v (sort l))))
-          unfolding words_refusal words_later
-          sheet_put h =
-              let e : ltb (length t) (sheet_length n (length l)) ≡ false = le-ltb (length t) (sheet_length n (length l)) h in
-              record { number = rw (a, b, c, d, e); target = rw (a, b, c, d, e) }
+pub doubled_by : (l : List ℕ) (r : Bool) → MatchBool r ((k : ℕ) × (k + 1 < length l) × (ends_of (get_or l k 0) ≡ ends_of (get_or l (k + 1) 0))) ((k : ℕ) → k + 1 < length l → ends_of (get_or l k 0) ≢ ends_of (get_or l (k + 1) 0)) → r ≡ doubled l
+doubled_by l true p = sym (doubled_true l p.0 (omega arith) (rw add-one at p.2))
+doubled_by l false p = sym (doubled_false l (λ k h. rw add-one at (p k (omega arith))))

@@ -4,12 +4,15 @@
 --   judged_words n es the words of the records         edges_of             the records of three slices
 --   holds m l        one of the words l is m
 --   words_tests       the refusals 22 to 25 of words   words_refusal        the first number that is given, 0 for none
---   words_later       the later target                 Put                 what the writing from words promises
+--   words_later       the later target                 answer_number       the number of the code's answer, 0 for none
+--   Put               what the writing from words promises
 -- Assumes nothing.
-use Rattle.std.specs.Prelude.{ℕ, ◌^◌, ◌||◌, Bool, false, cond, List, [], ◌∷◌, ◌≡◌, length, ltb, eqb}
+use Rattle.std.specs.Prelude.{ℕ, ◌^◌, ◌||◌, Bool, false, cond, List, [], ◌∷◌, ◌≡◌, Result, Ok, Err, length, ltb, eqb}
 use Rattle.std.proofs.lemmas.List.Edits.{sets}
 use Rattle.plain.specs.Lists.{sort}
 use Rattle.plain.specs.Refusals.{Test, first_of}
+use Rattle.refusals.specs.declared.Refusal.{Refusal}
+use Rattle.refusals.specs.Numbers.{number_of}
 use Rattle.sheet_format.specs.Numbers.{bytes_of}
 use Rattle.sheet_format.specs.Sheet.{sheet_length, wrong_source}
 use Rattle.sheet_format.specs.Writer.{Edge, wrong_ends, heavy_edge}
@@ -61,6 +64,10 @@ words_refusal n v l room = first_of (words_tests n v l room)
 unfoldable pub words_later : ℕ → ℕ → List ℕ → List ℕ → List ℕ
 words_later n v l t = cond (eqb (words_refusal n v l (length t)) 0) (sets t 0 (bytes_of (sheet_of n v (sort l)))) t
 
-pub record Put (n v : ℕ) (l t : List ℕ) (r : ℕ) (later : List ℕ) : Type 0 where
-  pub number : r ≡ words_refusal n v l (length t)
+abbrev pub answer_number : Result (Unit {0}) Refusal → ℕ
+answer_number (Ok a) = 0
+answer_number (Err r) = number_of r
+
+pub record Put (n v : ℕ) (l t : List ℕ) (r : Result (Unit {0}) Refusal) (later : List ℕ) : Type 0 where
+  pub number : answer_number r ≡ words_refusal n v l (length t)
   pub target : later ≡ words_later n v l t

@@ -10,10 +10,12 @@ ghost use Rattle.sheet_format.specs.Sheet.{sheet_length};
 ghost use Rattle.sheet_order.specs.Words.{doubled as doubled_in};
 ghost use Rattle.sheet_records.specs.Judged.{HEAVY as heavy_mark, STRAY as stray_mark, joining, half_word, judged_words, edges_of, holds as holds_in, Put};
 
+use refusals::Refusal;
 use sheet_put::BASE;
-use sheet_words::{HALF_BYTES, HEAD_BYTES, MOST_WEIGHT, WORD_BYTES};
+use sheet_words::MOST_WEIGHT;
 
 // The marks of a record that 23, and that 22, refuses. No half-edge's word is as large.
+// Kept: a mark is a word among the words that are sorted; a Result for each word would need a second local array (no heap, fixed memory).
 const HEAVY: u64 = 1 << 48;
 
 const STRAY: u64 = 1 << 49;
@@ -24,17 +26,12 @@ fn marks_agree()
 {}
 
 // The word of the half-edge from u to t of weight w, or its mark.
+#[tactic(auto, unfolding(crate::specs::Judged::half_word))]
 pub fn half_word(n: u64, u: u64, t: u64, w: u64) -> u64
     requires { n ≤ most_vertices }
     ensures { result ≡ half_word n u t w }
 {
-    if n <= u {
-        return STRAY;
-    }
-    if n <= t {
-        return STRAY;
-    }
-    if u == t {
+    if n <= u || n <= t || u == t {
         return STRAY;
     }
     if (MOST_WEIGHT as u64) < w {
@@ -56,19 +53,12 @@ pub fn put_record(words: &mut [u64], i: usize, n: u64, one: u64, other: u64, wei
 pub fn shortest(a: usize, b: usize, c: usize) -> usize
     ensures { result ≡ min a (min b c) }
 {
-    if a <= b {
-        if a <= c {
-            return a;
-        }
-        return c;
-    }
-    if b <= c {
-        return b;
-    }
-    c
+    a.min(b).min(c)
 }
 
 // The words of the first m records of three slices.
+// Kept: the page asks for "parallel number slices first"; all three are read at one index, which is the record's place among the words too.
+#[tactic(auto, using(crate::proofs::Gathering::length_edges))]
 pub fn gather_slices(
     words: &mut [u64],
     n: u64,
@@ -80,40 +70,29 @@ pub fn gather_slices(
     requires { (2 * m ≤ length words.old) × (n ≤ most_vertices) × (m ≡ length (edges_of ones.now others.now weights.now)) }
     ensures { words.new ≡ sets words.old 0 (judged_words n (edges_of ones.now others.now weights.now)) }
 {
-    let mut i = 0;
-    while i < m {
+    for i in 0..m {
         put_record(words, i, n, ones[i], others[i], weights[i]);
-        i += 1;
     }
 }
 
 // One of the words is the mark.
+// Kept: a loop; with contains a whole call on 400 records took 1.03 times as long, and for an any the proof stopped at grind's limit of instances.
 fn holds(words: &[u64], mark: u64) -> bool
     ensures { result ≡ holds_in mark words.now }
 {
-    let mut i = 0;
-    while i < words.len() {
-        if words[i] == mark {
+    for x in words {
+        if *x == mark {
             return true;
         }
-        i += 1;
     }
     false
 }
 
 // Two words next to each other have the same row and target.
 fn doubled(words: &[u64]) -> bool
-    requires { length words.now ≤ most_half_edges }
     ensures { result ≡ doubled_in words.now }
 {
-    let mut i = 0;
-    while i + 1 < words.len() {
-        if words[i] / BASE == words[i + 1] / BASE {
-            return true;
-        }
-        i += 1;
-    }
-    false
+    words.windows(2).any(|w| w[0] / BASE == w[1] / BASE)
 }
 
 // "Exact length 20 + 4(n+1) + 8h."
@@ -121,31 +100,32 @@ pub fn sheet_length(n: u64, h: usize) -> usize
     requires { (n ≤ most_vertices) × (h ≤ most_half_edges) }
     ensures { result ≡ sheet_length n h }
 {
-    HEAD_BYTES + WORD_BYTES * (n as usize + 1) + HALF_BYTES * h
+    sheet_words::length_of(n as usize, h)
 }
 
-// Writes the sheet of the words, whatever their order, or gives the number of the first refusal, 0 for none. The words are sorted on the way;
+// Writes the sheet of the words, whatever their order, or gives the first refusal. The words are sorted on the way;
 // nothing of the target is written before the last refusal is judged.
-pub fn put_records(target: &mut [u8], n: u64, source: u64, words: &mut [u64]) -> u64
+#[tactic(auto, using(sheet_order::proofs::Sorted::rises_sort), unfolding(crate::specs::Judged::words_refusal, crate::specs::Judged::words_later))]
+pub fn put_records(target: &mut [u8], n: u64, source: u64, words: &mut [u64]) -> Result<(), Refusal>
     requires { (n ≤ most_vertices) × (length words.old ≤ most_half_edges) }
     ensures { Put n source words.old target.old result target.new }
 {
     if holds(words, STRAY) {
-        return 22;
+        return Err(Refusal::RecordEnds);
     }
     if holds(words, HEAVY) {
-        return 23;
+        return Err(Refusal::RecordWeight);
     }
     sorting::sort_words(words);
     if doubled(words) {
-        return 24;
+        return Err(Refusal::RecordTwice);
     }
     if sheet_words::wrong_source(n as usize, source as usize) {
-        return 13;
+        return Err(Refusal::Source);
     }
     if target.len() < sheet_length(n, words.len()) {
-        return 25;
+        return Err(Refusal::ShortTarget);
     }
     sheet_put::put_sheet(target, n as usize, source as usize, words);
-    0
+    Ok(())
 }

@@ -1,11 +1,11 @@
 -- The cursors of test 17: how far each row is passed, and the place that is sought in one.
 -- Not here: the test (`one_sided`, Rattle.sheet_format.specs.Sheet). Read the Places of Rattle.sheet_words first.
 --   Passed    c half-edges of v's row are passed          Cursors   a cursor for each row
---   Seekable  where a search in a row may begin           Sought    what it finds
+--   Sought    the place that a search in a row finds
 --   SMALL, MIDDLE   the places of the two smaller tables of cursors
 -- Assumes nothing.
 use Rattle.std.specs.Prelude.{ℕ, suc, ◌+◌, ◌*◌, ◌<◌, ◌≤◌, List, length, get_or}
-use Rattle.sheet_format.specs.Numbers.{word_bytes, word}
+use Rattle.sheet_format.specs.Numbers.{word}
 use Rattle.sheet_format.specs.Sheet.{vertices, start}
 use Rattle.sheet_words.specs.Places.{half_words}
 
@@ -24,12 +24,6 @@ pub record Passed (s : List ℕ) (v c u : ℕ) : Type 0 where
 pub record Cursors (s : List ℕ) (n u : ℕ) (l : List ℕ) : Type 0 where
   pub enough : n ≤ length l
   pub passed : (v : ℕ) → v < n → Passed s v (get_or l v 0) u
-
--- `count` half-edges stand from the number `first` on, and the targets of those before `from` are below u
-pub record Seekable (s : List ℕ) (first count from u : ℕ) : Type 0 where
-  pub inside : word_bytes * (first + half_words * count) ≤ length s
-  pub within : from ≤ count
-  pub under : (i : ℕ) → i < from → word s (first + half_words * i) < u
 
 -- r is the first of c half-edges, from the number k on, whose target is not below u; c where there is none
 pub record Sought (w : ℕ → ℕ) (k c u r : ℕ) : Type 0 where

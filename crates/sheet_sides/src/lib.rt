@@ -2,40 +2,31 @@
 // is not below u, so that v's row names u exactly where u stands there. All cursors together pass each half-edge once.
 #![tactic(auto)]
 
-ghost use Rattle.std.specs.Prelude.{◌≡◌, ◌<◌, ◌≤◌};
-ghost use Rattle.sheet_format.specs.Numbers.{word};
+ghost use Rattle.std.specs.Prelude.{◌≡◌, ℕ, ◌+◌, ◌*◌, ◌<◌, ◌≤◌};
+ghost use Rattle.sheet_format.specs.Numbers.{most_vertices, word};
 ghost use Rattle.sheet_format.specs.Rows.{names};
 ghost use Rattle.sheet_format.specs.Sheet.{row, row_one_sided, one_sided};
-ghost use Rattle.sheet_words.specs.Places.{Ranked};
-ghost use Rattle.sheet_sides.specs.Cursors.{SMALL, MIDDLE, Cursors, Seekable, Sought};
+ghost use Rattle.sheet_words.specs.Places.{half_words, Ranked};
+ghost use Rattle.sheet_sides.specs.Cursors.{SMALL, MIDDLE, Cursors, Sought};
 
-use sheet_words::MOST_VERTICES;
+use sheet_words::{MOST_VERTICES, Row};
 
 // The places of the two smaller tables of cursors.
 const SMALL: usize = 1024;
 
 const MIDDLE: usize = 16384;
 
-fn wide(x: u32) -> usize
-    ensures { result ≡ x }
+// The first half-edge of a row, from `from` on, whose target is not below u; the row's length where there is none.
+fn seek(row: Row<'_>, from: usize, u: usize) -> usize
+    requires { (from ≤ row.count) × ((i : ℕ) → i < from → word row.bytes.now (row.first + half_words * i) < u) }
+    ensures { Sought (word row.entry.bytes.now) row.entry.first row.entry.count u result }
 {
-    x as usize
-}
-
-// The first of `count` half-edges, from `from` on, whose target is not below u; `count` where there is none.
-fn seek(s: &[u8], first: usize, count: usize, from: usize, u: usize) -> usize
-    requires { Seekable s.now first count from u }
-    ensures { Sought (word s.now) first count u result }
-{
-    let mut j = from;
-    while j < count {
-        let v = sheet_words::target_at(s, first, j);
-        if u <= v {
+    for j in from..row.count {
+        if u <= row.target(j) {
             return j;
         }
-        j += 1;
     }
-    j
+    row.count
 }
 
 // Whether v's row names u. The cursor of v moves past the targets below u.
@@ -43,79 +34,47 @@ fn answered(s: &[u8], n: usize, u: usize, v: usize, passed: &mut [u32]) -> bool
     requires { (Ranked s.now n) × (v < n) × (Cursors s.now n u passed.old) }
     ensures { (result ≡ names (row s.now v) u) × (Cursors s.now n u passed.new) }
 {
-    let at = sheet_words::row_at(s, n, v);
-    let first = at.first;
-    let count = at.count;
-    let from = wide(passed[v]);
-    let r = seek(s, first, count, from, u);
+    let row = sheet_words::row_at(s, n, v);
+    let r = seek(row, passed[v] as usize, u);
     passed[v] = r as u32;
-    if count <= r {
-        return false;
-    }
-    let w = sheet_words::target_at(s, first, r);
-    w == u
+    r < row.count && row.target(r) == u
 }
 
 // Some half-edge of u's row is not answered.
+#[tactic(auto, using(crate::proofs::Cursor::unanswered_turn))]
 fn row_one_sided(s: &[u8], n: usize, u: usize, passed: &mut [u32]) -> bool
     requires { (Ranked s.now n) × (u < n) × (Cursors s.now n u passed.old) }
     ensures { (result ≡ row_one_sided s.now u) × (Cursors s.now n u passed.new) }
 {
-    let at = sheet_words::row_at(s, n, u);
-    let first = at.first;
-    let count = at.count;
-    let mut j = 0;
-    while j < count {
-        let v = sheet_words::target_at(s, first, j);
-        let ok = answered(s, n, u, v, passed);
-        if !ok {
+    let row = sheet_words::row_at(s, n, u);
+    for j in 0..row.count {
+        if !answered(s, n, u, row.target(j), passed) {
             return true;
         }
-        j += 1;
     }
     false
 }
 
 // Some row is one-sided, with a table of cursors that all stand at their row's first half-edge.
+#[tactic(auto, unfolding(sheet_format::specs::Sheet::one_sided))]
 fn one_sided_with(s: &[u8], n: usize, passed: &mut [u32]) -> bool
     requires { (Ranked s.now n) × (Cursors s.now n 0 passed.old) }
     ensures { result ≡ one_sided s.now }
 {
-    let mut u = 0;
-    while u < n {
-        let found = row_one_sided(s, n, u, passed);
-        if found {
+    for u in 0..n {
+        if row_one_sided(s, n, u, passed) {
             return true;
         }
-        u += 1;
     }
     false
 }
 
-// With 1,024 cursors.
-fn one_sided_in_small(s: &[u8], n: usize) -> bool
-    requires { (Ranked s.now n) × (n ≤ SMALL) }
+// With a table of CURSORS cursors, at least one for each row, and none past those that a sheet may need.
+fn one_sided_in<const CURSORS: usize>(s: &[u8], n: usize) -> bool
+    requires { (Ranked s.now n) × (n ≤ CURSORS) × (CURSORS ≤ most_vertices) }
     ensures { result ≡ one_sided s.now }
 {
-    let mut passed = [0u32; SMALL];
-    one_sided_with(s, n, &mut passed)
-}
-
-// With 16,384 cursors.
-fn one_sided_in_middle(s: &[u8], n: usize) -> bool
-    requires { (Ranked s.now n) × (n ≤ MIDDLE) }
-    ensures { result ≡ one_sided s.now }
-{
-    let mut passed = [0u32; MIDDLE];
-    one_sided_with(s, n, &mut passed)
-}
-
-// With a cursor for every vertex that a sheet may have.
-fn one_sided_in_large(s: &[u8], n: usize) -> bool
-    requires { Ranked s.now n }
-    ensures { result ≡ one_sided s.now }
-{
-    let mut passed = [0u32; MOST_VERTICES];
+    let mut passed = [0u32; CURSORS];
     one_sided_with(s, n, &mut passed)
 }
 
@@ -125,10 +84,10 @@ pub fn one_sided(s: &[u8], n: usize) -> bool
     ensures { result ≡ one_sided s.now }
 {
     if n <= SMALL {
-        return one_sided_in_small(s, n);
+        one_sided_in::<SMALL>(s, n)
+    } else if n <= MIDDLE {
+        one_sided_in::<MIDDLE>(s, n)
+    } else {
+        one_sided_in::<MOST_VERTICES>(s, n)
     }
-    if n <= MIDDLE {
-        return one_sided_in_middle(s, n);
-    }
-    one_sided_in_large(s, n)
 }

@@ -1,2 +1,2 @@
--- Turns: the turns of the loops of tests 14 and 15.
+-- Turns: the turns of the loops of tests 14 to 16.
 pub mod Turns

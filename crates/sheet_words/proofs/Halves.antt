@@ -1,8 +1,7 @@
--- The half-edges from a number on, one after the other: the j-th, those behind it, and a loop that tests each.
+-- The half-edges from a number on, one after the other: the j-th, and those behind it.
 -- Not here: which rows stand where (Left). Read the definition of `halves` (Rattle.sheet_format.specs.Sheet) and Places first.
 -- Assumes nothing.
-use Prim.Native.Nat.{ℕ, zero, suc, ◌+◌, ◌*◌, ◌-◌, ◌<◌, ◌≤◌}
-use mathlib.Core.Bool.{Bool, true, false}
+use Prim.Native.Nat.{ℕ, zero, suc, ◌+◌, ◌*◌, ◌-◌, ◌<◌}
 use mathlib.Core.Logic.{inl, inr}
 use mathlib.Core.List.{List, [], ◌∷◌}
 use mathlib.Core.Path.{◌≡◌, refl, ap, ◌∙◌, subst}
@@ -11,8 +10,7 @@ use native.Mathlib.Omega.{arith}
 use lib.ListN.{length, get_or}
 use Rattle.walks.specs.Rows.{Half, Has}
 use Rattle.sheet_format.specs.Numbers.{word}
-use Rattle.sheet_format.specs.Rows.{any}
-use Rattle.sheet_format.specs.Sheet.{row, halves}
+use Rattle.sheet_format.specs.Sheet.{halves}
 use Rattle.sheet_words.specs.Places.{half_words, half_of, RowAt}
 
 -- the j-th half-edge from the number k on
@@ -45,32 +43,12 @@ has_nth w k c j h =
     subst (λ (x : Half). Has (halves w k c) x.target x.weight) (get_or-halves w k c j d h)
     (has_get_or (halves w k c) j d (omega (arith, length-halves w k c)))
 
--- ---- a loop over them
-
-module _ (w : ℕ → ℕ) (k c j : ℕ) (h : j < c) where
-  -- the j-th half-edge and those behind it
-  pub unroll : halves w (k + half_words * j) (c - j) ≡ nth w k j ∷ halves w (k + half_words * (j + 1)) (c - (j + 1))
-  unroll =
-      let e : c - j ≡ suc (c - (j + 1)) = omega arith in
-      let f : k + half_words * (j + 1) ≡ suc (suc (k + half_words * j)) = omega arith in
-      rw (e, f, add-one (k + half_words * j))
-
-  -- a test of each half-edge
-  pub any_here : (t : Half → Bool) → t (nth w k j) ≡ true → any t (halves w (k + half_words * j) (c - j)) ≡ true
-  any_here t q = rw (unroll, q)
-
-  pub any_turn : (t : Half → Bool) → t (nth w k j) ≡ false
-      → any t (halves w (k + half_words * j) (c - j)) ≡ any t (halves w (k + half_words * (j + 1)) (c - (j + 1)))
-  any_turn t q = rw (unroll, q)
-
-pub no_halves : (w : ℕ → ℕ) (k c j : ℕ) → c ≤ j → halves w (k + half_words * j) (c - j) ≡ []
-no_halves w k c j h = let e : c - j ≡ 0 = omega arith in rw e
-
-pub all_halves : (w : ℕ → ℕ) (k c : ℕ) → halves w (k + half_words * 0) (c - 0) ≡ halves w k c
-all_halves w k c =
-    let e : c - 0 ≡ c = omega arith in
-    let f : k + half_words * 0 ≡ k = omega arith in
-    rw (e, f)
+-- a loop over them: the j-th half-edge and those behind it
+pub unroll : (w : ℕ → ℕ) (k c j : ℕ) → j < c → halves w (k + half_words * j) (c - j) ≡ nth w k j ∷ halves w (k + half_words * (j + 1)) (c - (j + 1))
+unroll w k c j h =
+    let e : c - j ≡ suc (c - (j + 1)) = omega arith in
+    let f : k + half_words * (j + 1) ≡ suc (suc (k + half_words * j)) = omega arith in
+    rw (e, f, add-one (k + half_words * j))
 
 -- ---- a row where it stands
 
@@ -78,6 +56,3 @@ module _ (s : List ℕ) (u first count j : ℕ) (r : RowAt s u first count) wher
   -- the j-th half-edge of the row is the one that is read there
   pub half_nth : j < count → half_of s u j ≡ nth (word s) first j
   half_nth h = rw r.is_row (get_or-halves (word s) first count j (record { target = 0; weight = 0 }) h)
-
-  pub half_has : j < count → Has (row s u) (half_of s u j).target (half_of s u j).weight
-  half_has h = has_get_or (row s u) j (record { target = 0; weight = 0 }) (omega (arith, r.counted))

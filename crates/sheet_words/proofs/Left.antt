@@ -74,17 +74,19 @@ ranked s n r a = record {
 
 -- ---- a row's place
 
-pub row-place : (s : List ℕ) (n u : ℕ) → Rowed s n → u < n → RowAt s u (6 + n + half_words * start s u) (start s (suc u) - start s u)
+pub row_place : (s : List ℕ) (n u first here next : ℕ) → Rowed s n → u < n → here ≡ start s u → next ≡ word s (5 + u + 1)
+    → first ≡ 6 + n + half_words * here → RowAt s u first (next - here)
 unfolding row
-row-place s n u r h =
+row_place s n u first here next r h f k p =
     let l = r.laid in
     let c : vertices s ≡ n = l.counted in
+    let g : word s (5 + u + 1) ≡ start s (suc u) = ap (λ (i : ℕ). word s i) (omega arith) in
     let a = r.rise u h in
     let b = r.inside u h in
-    let e : row s u ≡ halves (word s) (6 + n + half_words * start s u) (start s (suc u) - start s u) = rw (c, lt-ltb u n h) in
+    let e : row s u ≡ halves (word s) first (next - here) = rw (p, f, k, g, c, lt-ltb u n h) in
     record {
       is_row = e;
-      counted = ap length e ∙ length-halves (word s) (6 + n + half_words * start s u) (start s (suc u) - start s u);
+      counted = ap length e ∙ length-halves (word s) first (next - here);
       inside = omega arith;
       countable = omega arith;
       first_at = omega arith;

@@ -44,9 +44,6 @@ pub const HALF_WORDS: usize = 2;
 
 pub const WEIGHT: usize = 1;
 
-// A byte counts this many of the one before it.
-const BYTE: usize = 256;
-
 // The fixed numbers of the code are those of the meanings.
 fn numbers_agree()
     ensures { (MOST_VERTICES ≡ most_vertices) × (MOST_HALF_EDGES ≡ most_half_edges) × (MOST_RECORDS ≡ most_records) × (MOST_WEIGHT ≡ most_weight) }
@@ -64,23 +61,14 @@ fn places_agree(s: &[u8], u: usize)
 
 // ---- numbers
 
-fn wide(x: u8) -> usize
-    ensures { (result ≡ x) × (result < 256) }
-{
-    x as usize
-}
-
 // "Little-endian 32-bit numbers": the k-th.
+#[tactic(auto, unfolding(sheet_format::specs::Numbers::number))]
 pub fn word_at(s: &[u8], k: usize) -> usize
     requires { word_bytes * (k + 1) ≤ length s.now }
     ensures { (result ≡ word s.now k) × (result < word_limit) }
 {
     let at = WORD_BYTES * k;
-    let a = wide(s[at]);
-    let b = wide(s[at + 1]);
-    let c = wide(s[at + 2]);
-    let d = wide(s[at + 3]);
-    a + BYTE * (b + BYTE * (c + BYTE * d))
+    u32::from_le_bytes([s[at], s[at + 1], s[at + 2], s[at + 3]]) as usize
 }
 
 // "offset 20+4(n+1)"
@@ -105,55 +93,70 @@ pub fn length_of(n: usize, h: usize) -> usize
 pub fn wrong_count(n: usize) -> bool
     ensures { result ≡ wrong_count n }
 {
-    if n == 0 {
-        return true;
-    }
-    MOST_VERTICES < n
+    n == 0 || MOST_VERTICES < n
 }
 
 // 13: "source >= n and not the no-choice value".
+#[tactic(auto, unfolding(sheet_format::specs::Sheet::wrong_source))]
 pub fn wrong_source(n: usize, v: usize) -> bool
     ensures { result ≡ wrong_source n v }
 {
-    if v < n {
-        return false;
-    }
-    v != NO_CHOICE
+    n <= v && v != NO_CHOICE
 }
 
 // The vertex that a stored source stands for: "Source 4,294,967,295 means no choice was made and stands for vertex 0."
+#[tactic(auto, unfolding(sheet_format::specs::Sheet::chosen_source))]
 pub fn chosen_source(n: usize, v: usize) -> usize
     ensures { result ≡ chosen_source n v }
 {
-    if v == NO_CHOICE {
-        return 0;
-    }
-    v
+    if v == NO_CHOICE { 0 } else { v }
 }
 
 // ---- rows
 
-// Where a row stands: `count` half-edges from the number `first` on.
+// A row where it stands: `count` half-edges, two numbers each, from the number `first` of the bytes on.
 #[derive(Clone, Copy)]
-pub struct Place {
+pub struct Row<'a> {
+    pub bytes: &'a [u8],
     pub first: usize,
     pub count: usize,
+    pub ghost inside: { word_bytes * (first + half_words * count) ≤ length bytes.now },
 }
 
-// Where u's row stands, behind 5 + (n+1) numbers.
-pub fn row_at(s: &[u8], n: usize, u: usize) -> Place
+impl<'a> Row<'a> {
+    // The target of its j-th half-edge.
+    pub fn target(&self, j: usize) -> usize
+        requires { j < self.now.count }
+        ensures { TargetAt self.now.bytes.now self.now.first j result }
+    {
+        target_at(self.bytes, self.first, j)
+    }
+
+    // Its weight.
+    pub fn weight(&self, j: usize) -> usize
+        requires { j < self.now.count }
+        ensures { WeightAt self.now.bytes.now self.now.first j result }
+    {
+        weight_at(self.bytes, self.first, j)
+    }
+}
+
+// u's row, behind 5 + (n+1) numbers.
+pub fn row_at(s: &[u8], n: usize, u: usize) -> Row<'_>
     requires { (Rowed s.now n) × (u < n) }
-    ensures { RowAt s.now u result.first result.count }
+    ensures { (result.bytes.now ≡ s.now) × RowAt s.now u result.first result.count }
 {
     let here = word_at(s, STARTS_AT + u);
     let next = word_at(s, STARTS_AT + u + 1);
-    Place {
+    Row {
+        bytes: s,
         first: STARTS_AT + (n + 1) + HALF_WORDS * here,
         count: next - here,
     }
 }
 
 // The target of the j-th half-edge of a row that stands from the number `first` on.
+#[tactic(auto, using(crate::proofs::Halves::half_nth))]
 pub fn target_at(s: &[u8], first: usize, j: usize) -> usize
     requires { word_bytes * (first + half_words * (j + 1)) ≤ length s.now }
     ensures { TargetAt s.now first j result }
@@ -162,6 +165,7 @@ pub fn target_at(s: &[u8], first: usize, j: usize) -> usize
 }
 
 // Its weight.
+#[tactic(auto, using(crate::proofs::Halves::half_nth))]
 pub fn weight_at(s: &[u8], first: usize, j: usize) -> usize
     requires { word_bytes * (first + half_words * (j + 1)) ≤ length s.now }
     ensures { WeightAt s.now first j result }

@@ -18,6 +18,7 @@ use borrow.Author.Tests.{eqb-true}
 use lib.Dec.{eqb}
 use lib.ListN.{length, take, drop}
 use lib.Seq.{take_at, drop_at}
+use Rattle.std.specs.Prelude.{Result, Ok, Err}
 use Rattle.plain.specs.Refusals.{First}
 use Rattle.walks.specs.Rows.{Has}
 use Rattle.sheet_format.specs.Sheet.{source, row, sheet_length, refusal}
@@ -25,25 +26,26 @@ use Rattle.sheet_format.specs.Writer.{Edge, Joins, written, write_refusal, later
 use Rattle.sheet_format.proofs.Main.{written_accepted, written_length, written_source, written_has_exactly, written_beyond}
 use Rattle.runs.specs.Write.{WriteOutcome, refused, wrote, write_refusals, write_call}
 use Rattle.runs.proofs.Run.{write_refused, write_unwritten}
+use Rattle.refusals.specs.declared.Refusal.{Refusal}
+use Rattle.refusals.specs.Numbers.{number_of}
 use Rattle.sheet_writer.specs.Answers.{reply_in, outcome}
-use Rattle.sheet_writer.specs.declared.Written.{Written}
-use Rattle.sheet_writer.specs.declared.Written.TheVariants.{Wrote, Refused}
+use Rattle.sheet_writer.proofs.Numbers.{number_one}
 
 -- an answer is told by its reply
-reply_one : (r s : Written) → reply_in r ≡ reply_in s → r ≡ s
-reply_one (Wrote k) (Wrote j) e = cc
-reply_one (Wrote k) (Refused j) e = absurd (let z : ◌≡◌ {A = ℕ} 0 1 = cc in omega arith)
-reply_one (Refused k) (Wrote j) e = absurd (let z : ◌≡◌ {A = ℕ} 0 1 = cc in omega arith)
-reply_one (Refused k) (Refused j) e = cc
+reply_one : (r s : Result ℕ Refusal) → reply_in r ≡ reply_in s → r ≡ s
+reply_one (Ok k) (Ok j) e = cc
+reply_one (Ok k) (Err j) e = absurd (let z : ◌≡◌ {A = ℕ} 0 1 = cc in omega arith)
+reply_one (Err k) (Ok j) e = absurd (let z : ◌≡◌ {A = ℕ} 0 1 = cc in omega arith)
+reply_one (Err k) (Err j) e = ap Err (number_one k j cc)
 
-pub write_one : (n v : ℕ) (es : List Edge) (t a b : List ℕ) (r s : Written) → outcome r a ≡ write_call n v es t → outcome s b ≡ write_call n v es t → (r ≡ s) × (a ≡ b)
+pub write_one : (n v : ℕ) (es : List Edge) (t a b : List ℕ) (r s : Result ℕ Refusal) → outcome r a ≡ write_call n v es t → outcome s b ≡ write_call n v es t → (r ≡ s) × (a ≡ b)
 write_one n v es t a b r s p q =
     let e : outcome r a ≡ outcome s b = p ∙ sym q in
     (reply_one r s (ap (λ (o : WriteOutcome). o.reply) e), ap (λ (o : WriteOutcome). o.target) e)
 
-module _ (n v : ℕ) (es : List Edge) (t after : List ℕ) (r : Written) (said : outcome r after ≡ write_call n v es t) where
+module _ (n v : ℕ) (es : List Edge) (t after : List ℕ) (r : Result ℕ Refusal) (said : outcome r after ≡ write_call n v es t) where
   -- ---- the sheet is written
-  module _ (k : ℕ) (e : r ≡ Wrote k) where
+  module _ (k : ℕ) (e : r ≡ Ok k) where
     reply_is : wrote k ≡ (write_call n v es t).reply
     reply_is = ap reply_in (sym e) ∙ ap (λ (o : WriteOutcome). o.reply) said
 
@@ -81,12 +83,12 @@ module _ (n v : ℕ) (es : List Edge) (t after : List ℕ) (r : Written) (said :
     wrote_has_exactly = rw wrote_sheet (written_has_exactly n v es (length t) taken.0)
 
   -- ---- the call is refused
-  module _ (k : ℕ) (e : r ≡ Refused k) where
-    refusal_is : (write_call n v es t).reply ≡ refused k
+  module _ (f : Refusal) (e : r ≡ Err f) where
+    refusal_is : (write_call n v es t).reply ≡ refused (number_of f)
     refusal_is = sym (ap (λ (o : WriteOutcome). o.reply) said) ∙ ap reply_in e
 
-    pub refused_first : First (write_refusals n v es t) k
-    refused_first = (write_refused n v es t k).0 refusal_is
+    pub refused_first : First (write_refusals n v es t) (number_of f)
+    refused_first = (write_refused n v es t (number_of f)).0 refusal_is
 
     pub refused_leaves : after ≡ t
-    refused_leaves = ap (λ (o : WriteOutcome). o.target) said ∙ write_unwritten n v es t k refusal_is
+    refused_leaves = ap (λ (o : WriteOutcome). o.target) said ∙ write_unwritten n v es t (number_of f) refusal_is

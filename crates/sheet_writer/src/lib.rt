@@ -3,14 +3,15 @@
 // sizes; sorting them takes m log m steps for m records.
 #![tactic(auto)]
 
-ghost use Rattle.std.specs.Prelude.{◌||◌, [], ◌∷◌, ◌≡◌, ◌+◌, ◌*◌, ◌<◌, ◌≤◌, leb, ltb, length, get_or, take};
+ghost use Rattle.std.specs.Prelude.{◌≡◌, ◌*◌, ◌≤◌, false, List, length};
 ghost use Rattle.std.proofs.lemmas.List.Edits.{sets};
-ghost use Rattle.sheet_format.specs.Numbers.{most_vertices, most_records};
-ghost use Rattle.sheet_format.specs.Sheet.{wrong_count};
+ghost use Rattle.sheet_format.specs.Numbers.{most_vertices};
+ghost use Rattle.sheet_format.specs.Writer.{Edge as Joined, too_many};
 ghost use Rattle.runs.specs.Write.{write_call};
 ghost use Rattle.sheet_records.specs.Judged.{judged_words, edges_of};
-ghost use Rattle.sheet_writer.specs.Answers.{SMALL, MIDDLE, LARGE, outcome, no_edge, record_of, records_of, Roomy, Writes};
+ghost use Rattle.sheet_writer.specs.Answers.{outcome, records_of};
 
+use refusals::Refusal;
 use sheet_words::MOST_RECORDS;
 
 // The words of the three local arrays.
@@ -19,6 +20,39 @@ const SMALL: usize = 1024;
 const MIDDLE: usize = 32768;
 
 const LARGE: usize = 524288;
+
+// Edge records that are lent, in either form: how many they are, and the words of all, put at the front of an array.
+trait Records {
+    ghost edges: { Self → List Joined };
+
+    fn count(&self) -> usize
+        ensures { result ≡ length (edges self.now) };
+
+    fn gather(&self, words: &mut [u64], n: u64)
+        requires { (2 * length (edges self.now) ≤ length words.old) × (n ≤ most_vertices) }
+        ensures { words.new ≡ sets words.old 0 (judged_words n (edges self.now)) };
+}
+
+// Three slices, and as many records as the shortest has entries: the k-th record joins the k-th of `ones` and the k-th of `others`.
+#[derive(Clone, Copy)]
+struct Slices<'a> {
+    ones: &'a [u64],
+    others: &'a [u64],
+    weights: &'a [u64],
+}
+
+impl Records for Slices<'_> {
+    ghost edges = { λ s. edges_of s.ones.now s.others.now s.weights.now };
+
+    #[tactic(auto, using(sheet_records::proofs::Gathering::length_edges))]
+    fn count(&self) -> usize {
+        sheet_records::shortest(self.ones.len(), self.others.len(), self.weights.len())
+    }
+
+    fn gather(&self, words: &mut [u64], n: u64) {
+        sheet_records::gather_slices(words, n, self.ones, self.others, self.weights, self.count());
+    }
+}
 
 // "edge records (two ends, one weight)"; laid out as C does, since the C face takes a slice of them
 #[repr(C)]
@@ -29,119 +63,59 @@ pub struct Edge {
     pub weight: u64,
 }
 
-// "returns the length"; "A refusal returns its number alone."
-#[derive(Clone, Copy)]
-pub enum Written {
-    Wrote(u64),
-    Refused(u64),
-}
+impl Records for &[Edge] {
+    ghost edges = { λ s. records_of s.now };
 
-// The two words of the i-th record.
-fn put_edge(words: &mut [u64], i: usize, n: u64, e: Edge)
-    requires { (2 * i + 2 ≤ length words.old) × (n ≤ most_vertices) }
-    ensures { words.new ≡ sets words.old (2 * i) (judged_words n (record_of e ∷ [])) }
-{
-    sheet_records::put_record(words, i, n, e.one, e.other, e.weight);
-}
-
-// The call from the words of its m records: refusals 22, 23, 24, 13, 25, or the sheet.
-fn write_words(target: &mut [u8], n: u64, source: u64, words: &mut [u64], m: usize) -> Written
-    requires { Roomy n m (length words.old) }
-    ensures { Writes n source (take (2 * m) words.old) target.old (outcome result target.new) }
-{
-    let h = 2 * m;
-    let k = sheet_records::put_records(target, n, source, &mut words[..h]);
-    if k != 0 {
-        return Written::Refused(k);
+    fn count(&self) -> usize {
+        self.len()
     }
-    Written::Wrote(sheet_records::sheet_length(n, h) as u64)
-}
 
-// The call from three slices whose shortest has m entries, with room for the records' words.
-fn slices_in(
-    target: &mut [u8],
-    n: u64,
-    source: u64,
-    ones: &[u64],
-    others: &[u64],
-    weights: &[u64],
-    m: usize,
-    words: &mut [u64],
-) -> Written
-    requires { Roomy n m (length words.old) × (m ≡ length (edges_of ones.now others.now weights.now)) }
-    ensures { outcome result target.new ≡ write_call n source (edges_of ones.now others.now weights.now) target.old }
-{
-    sheet_records::gather_slices(words, n, ones, others, weights, m);
-    write_words(target, n, source, words, m)
-}
-
-// The same with a local array of 1,024 words.
-fn slices_in_small(
-    target: &mut [u8],
-    n: u64,
-    source: u64,
-    ones: &[u64],
-    others: &[u64],
-    weights: &[u64],
-    m: usize,
-) -> Written
-    requires { Roomy n m SMALL × (m ≡ length (edges_of ones.now others.now weights.now)) }
-    ensures { outcome result target.new ≡ write_call n source (edges_of ones.now others.now weights.now) target.old }
-{
-    let mut words = [0u64; SMALL];
-    slices_in(target, n, source, ones, others, weights, m, &mut words)
-}
-
-// The same with 32,768 words.
-fn slices_in_middle(
-    target: &mut [u8],
-    n: u64,
-    source: u64,
-    ones: &[u64],
-    others: &[u64],
-    weights: &[u64],
-    m: usize,
-) -> Written
-    requires { Roomy n m MIDDLE × (m ≡ length (edges_of ones.now others.now weights.now)) }
-    ensures { outcome result target.new ≡ write_call n source (edges_of ones.now others.now weights.now) target.old }
-{
-    let mut words = [0u64; MIDDLE];
-    slices_in(target, n, source, ones, others, weights, m, &mut words)
-}
-
-// The same with two words for each of the most records.
-fn slices_in_large(
-    target: &mut [u8],
-    n: u64,
-    source: u64,
-    ones: &[u64],
-    others: &[u64],
-    weights: &[u64],
-    m: usize,
-) -> Written
-    requires { Roomy n m LARGE × (m ≡ length (edges_of ones.now others.now weights.now)) }
-    ensures { outcome result target.new ≡ write_call n source (edges_of ones.now others.now weights.now) target.old }
-{
-    let mut words = [0u64; LARGE];
-    slices_in(target, n, source, ones, others, weights, m, &mut words)
-}
-
-// 21: "n out of range, or more than 262,144 records"
-fn too_many(n: u64, m: usize) -> bool
-    ensures { result ≡ (wrong_count n || ltb most_records m) }
-{
-    if sheet_words::wrong_count(n as usize) {
-        return true;
+    // The thin loop.
+    fn gather(&self, words: &mut [u64], n: u64) {
+        for (i, e) in self.iter().enumerate() {
+            sheet_records::put_record(words, i, n, e.one, e.other, e.weight);
+        }
     }
-    MOST_RECORDS < m
 }
 
-// The words of m records fit an array of so many.
-fn fits(m: usize, room: usize) -> bool
-    requires { m ≤ most_records }
-    ensures { result ≡ leb (2 * m) room }
+// The call after 21, with a local array of so many words: refusals 22, 23, 24, 13, 25, or the sheet.
+fn write_in<const WORDS: usize, R: Records>(
+    target: &mut [u8],
+    n: u64,
+    source: u64,
+    records: &R,
+) -> Result<u64, Refusal>
+    requires { (too_many n (R.edges records.now) ≡ false) × (2 * length (R.edges records.now) ≤ WORDS) × (WORDS ≤ LARGE) }
+    ensures { outcome result target.new ≡ write_call n source (R.edges records.now) target.old }
 {
-    2 * m <= room
+    let mut words = [0u64; WORDS];
+    records.gather(&mut words, n);
+    let h = 2 * records.count();
+    sheet_records::put_records(target, n, source, &mut words[..h])?;
+    Ok(sheet_records::sheet_length(n, h) as u64)
+}
+
+// "returns the length"; "A refusal returns its number alone.": the call, with the least array that is long enough.
+#[tactic(auto, unfolding(runs::specs::Write::write_call, sheet_format::specs::Writer::write_refusal, sheet_format::specs::Writer::later_target))]
+fn write_records<R: Records>(
+    target: &mut [u8],
+    n: u64,
+    source: u64,
+    records: &R,
+) -> Result<u64, Refusal>
+    ensures { outcome result target.new ≡ write_call n source (R.edges records.now) target.old }
+{
+    let m = records.count();
+    if sheet_words::wrong_count(n as usize) || MOST_RECORDS < m {
+        return Err(Refusal::RecordCount);
+    }
+    if 2 * m <= SMALL {
+        return write_in::<SMALL, _>(target, n, source, records);
+    }
+    if 2 * m <= MIDDLE {
+        return write_in::<MIDDLE, _>(target, n, source, records);
+    }
+    write_in::<LARGE, _>(target, n, source, records)
 }
 
 // Writes the sheet of the records of three slices, as many as the shortest has entries: the k-th record joins the k-th of `ones` and the k-th of
@@ -153,93 +127,20 @@ pub fn write_slices(
     ones: &[u64],
     others: &[u64],
     weights: &[u64],
-) -> Written
+) -> Result<u64, Refusal>
     ensures { outcome result target.new ≡ write_call n source (edges_of ones.now others.now weights.now) target.old }
 {
-    let m = sheet_records::shortest(ones.len(), others.len(), weights.len());
-    if too_many(n, m) {
-        return refused_many();
-    }
-    if fits(m, SMALL) {
-        return slices_in_small(target, n, source, ones, others, weights, m);
-    }
-    if fits(m, MIDDLE) {
-        return slices_in_middle(target, n, source, ones, others, weights, m);
-    }
-    slices_in_large(target, n, source, ones, others, weights, m)
-}
-
-// One record, by value.
-fn edge_at(edges: &[Edge], i: usize) -> Edge
-    requires { i < length edges.now }
-    ensures { result ≡ get_or edges.now i no_edge }
-{
-    edges[i]
-}
-
-// The words of all records: the thin loop.
-fn gather(words: &mut [u64], n: u64, edges: &[Edge])
-    requires { (2 * length edges.now ≤ length words.old) × (n ≤ most_vertices) }
-    ensures { words.new ≡ sets words.old 0 (judged_words n (records_of edges.now)) }
-{
-    let mut i: usize = 0;
-    while i < edges.len() {
-        let e = edge_at(edges, i);
-        put_edge(words, i, n, e);
-        i += 1;
-    }
-}
-
-// The call from a slice of records, with a local array of 1,024 words.
-fn write_in_small(target: &mut [u8], n: u64, source: u64, edges: &[Edge]) -> Written
-    requires { Roomy n (length edges.now) SMALL }
-    ensures { outcome result target.new ≡ write_call n source (records_of edges.now) target.old }
-{
-    let mut words = [0u64; SMALL];
-    gather(&mut words, n, edges);
-    write_words(target, n, source, &mut words, edges.len())
-}
-
-// The call from a slice of records, with a local array of 32,768 words.
-fn write_in_middle(target: &mut [u8], n: u64, source: u64, edges: &[Edge]) -> Written
-    requires { Roomy n (length edges.now) MIDDLE }
-    ensures { outcome result target.new ≡ write_call n source (records_of edges.now) target.old }
-{
-    let mut words = [0u64; MIDDLE];
-    gather(&mut words, n, edges);
-    write_words(target, n, source, &mut words, edges.len())
-}
-
-// The call from a slice of records, with a local array of two words for each of the most records.
-fn write_in_large(target: &mut [u8], n: u64, source: u64, edges: &[Edge]) -> Written
-    requires { Roomy n (length edges.now) LARGE }
-    ensures { outcome result target.new ≡ write_call n source (records_of edges.now) target.old }
-{
-    let mut words = [0u64; LARGE];
-    gather(&mut words, n, edges);
-    write_words(target, n, source, &mut words, edges.len())
-}
-
-// Refusal 21.
-fn refused_many() -> Written
-    ensures { result ≡ Written.Refused 21 }
-{
-    Written::Refused(21)
+    let records = Slices {
+        ones,
+        others,
+        weights,
+    };
+    write_records(target, n, source, &records)
 }
 
 // Writes the sheet of the records of a slice. Refusals 21, 22, 23, 24, 13, 25.
-pub fn write(target: &mut [u8], n: u64, source: u64, edges: &[Edge]) -> Written
+pub fn write(target: &mut [u8], n: u64, source: u64, edges: &[Edge]) -> Result<u64, Refusal>
     ensures { outcome result target.new ≡ write_call n source (records_of edges.now) target.old }
 {
-    let m = edges.len();
-    if too_many(n, m) {
-        return refused_many();
-    }
-    if fits(m, SMALL) {
-        return write_in_small(target, n, source, edges);
-    }
-    if fits(m, MIDDLE) {
-        return write_in_middle(target, n, source, edges);
-    }
-    write_in_large(target, n, source, edges)
+    write_records(target, n, source, &edges)
 }

@@ -1,3 +1,2 @@
--- Answer: which verdict each case of the answer is. Tables: the places of the tables of last entries.
+-- Answer: which verdict each case of the answer is, and which refusal.
 pub mod Answer
-pub mod Tables

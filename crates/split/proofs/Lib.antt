@@ -1,2 +1,2 @@
--- Turns: the turns of the two loops. Assumes nothing.
+-- Turns: the turns of the loop. Assumes nothing.
 pub mod Turns

@@ -1,4 +1,4 @@
--- Turns of the loops that move words.
+-- Turns of the loop that splits a part.
 -- Assumes nothing.
 use Prim.Native.Nat.{ℕ, suc, ◌+◌, ◌-◌, ◌<◌, ◌≤◌}
 use mathlib.Core.Bool.{Bool, true, false}
@@ -7,31 +7,14 @@ use mathlib.Core.List.{List, [], ◌∷◌, ◌++◌, append-nil}
 use native.Mathlib.Omega.{arith}
 use borrow.Author.Tests.{leb-true, leb-false, le-leb, lt-leb, lt-ltb, le-ltb}
 use lib.Dec.{leb, ltb}
-use lib.ListN.{length, get_or, set, replicate, length-append, length-replicate}
+use lib.ListN.{length, get_or, set, replicate, length-append}
 use lib.Seq.{sets}
-use Rattle.lists.specs.Put.{part, part-suc, length-part, put-append, put_snoc, put_comm, set-put-before, get_or-put-before, get_or-put-after}
+use Rattle.lists.specs.Put.{part, part-suc, length-part, put-append, put_snoc, set-put-before, get_or-put-after}
 use Rattle.lists.specs.Part.{get_or-part}
-use Rattle.lists.specs.Move.{zero-turn}
 use Rattle.rules.specs.Pair.{OPEN}
 use Rattle.plain.specs.Lists.{keep, sift, Every}
 use Rattle.rules.proofs.Sort.{every_at}
 use Rattle.split.specs.Split.{stays, goes, tagged, Parted}
-
--- ---- words go up, and zeros stay
-
-pub lift_turn : (xs s : List ℕ) (from to j : ℕ) → from + j < to → to + j < length xs → s ≡ sets (sets xs to (part xs from j)) from (replicate j 0)
-    → set (set s (to + j) (get_or s (from + j) 0)) (from + j) 0 ≡ sets (sets xs to (part xs from (j + 1))) from (replicate (j + 1) 0)
-lift_turn xs s from to j h g e =
-    let O : List ℕ = replicate j 0 in
-    let lo : length O ≡ j = length-replicate j 0 in
-    let P = part xs from j in
-    let lp : length P ≡ j = length-part xs from j (omega arith) in
-    let Y = sets xs to P in
-    let v : get_or s (from + j) 0 ≡ get_or xs (from + j) 0 =
-    ap (λ (l : List ℕ). get_or l (from + j) 0) e ∙ get_or-put-after O Y from (from + j) (omega arith) ∙ get_or-put-before P xs to (from + j) (omega arith) in
-    let y : set Y (to + j) (get_or xs (from + j) 0) ≡ sets xs to (part xs from (j + 1)) = rw (part-suc xs from j (omega arith), put_snoc, lp) in
-    let c : set (sets Y from O) (to + j) (get_or xs (from + j) 0) ≡ sets (set Y (to + j) (get_or xs (from + j) 0)) from O = put_comm O (get_or xs (from + j) 0 ∷ []) Y from (to + j) (omega arith) in
-    rw (v, e, c, y) (zero-turn (sets xs to (part xs from (j + 1))) from j)
 
 -- ---- a part split by a bound
 

@@ -13,12 +13,8 @@ pub fn lift(img: &mut [u64], from: usize, to: usize, m: usize)
     requires { (from + m ≤ to) × (to + m ≤ length img.old) }
     ensures { img.new ≡ sets (sets img.old to (part img.old from m)) from (replicate m 0) }
 {
-    let mut j = 0;
-    while j < m {
-        img[to + j] = img[from + j];
-        img[from + j] = 0;
-        j += 1;
-    }
+    words_moved::copy(img, from, to, m);
+    words_moved::clear(img, from, m);
 }
 
 // Of the m pairs at `area` those above v go to `to`, each with the tag added. The others close up, and zeros stand behind them; the answer is
@@ -28,8 +24,7 @@ pub fn split(img: &mut [u64], area: usize, m: usize, to: usize, tag: u64, v: u64
     ensures { Parted result img.old img.new area m to tag v }
 {
     let mut k = 0;
-    let mut j = 0;
-    while j < m {
+    for j in 0..m {
         let p = img[area + j];
         if v < p {
             img[to + (j - k)] = tag + p;
@@ -37,7 +32,6 @@ pub fn split(img: &mut [u64], area: usize, m: usize, to: usize, tag: u64, v: u64
             img[area + k] = p;
             k += 1;
         }
-        j += 1;
     }
     words_moved::clear(img, area + k, m - k);
     k

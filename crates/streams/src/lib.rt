@@ -18,10 +18,7 @@ pub struct Printed {
 pub fn read_some(input: &mut Stdin, chunk: &mut [u8]) -> usize
     ensures { IsPrefixLen result chunk.new }
 {
-    match input.read(chunk) {
-        Ok(n) => n,
-        Err(_) => 0,
-    }
+    input.read(chunk).unwrap_or(0)
 }
 
 // Reads until the buffer is full or the input ends.
@@ -29,6 +26,7 @@ pub fn read_all(input: &mut Stdin, buffer: &mut [u8]) -> usize
     ensures { IsPrefixLen result buffer.new }
 {
     let mut done = 0;
+    // Kept: the step is what a read brings; `read_exact` and `read_to_end` say little of a read that fails.
     while done < buffer.len() {
         let n = read_some(input, &mut buffer[done..]);
         if n == 0 {
@@ -43,10 +41,9 @@ pub fn read_all(input: &mut Stdin, buffer: &mut [u8]) -> usize
 pub fn print(output: &mut Stdout, text: &[u8]) -> Printed
     ensures { result.bytes ≡ length text.now }
 {
-    let whole = output.write_all(text).is_ok();
     Printed {
         bytes: text.len(),
-        whole: whole,
+        whole: output.write_all(text).is_ok(),
     }
 }
 
@@ -65,16 +62,9 @@ pub fn both(first: Printed, second: Printed) -> Printed
     requires { first.bytes + second.bytes < 2 ^ 64 }
     ensures { (result.bytes ≡ first.bytes + second.bytes) × (result.whole ≡ (first.whole && second.whole)) }
 {
-    let bytes = first.bytes + second.bytes;
-    if !first.whole {
-        return Printed {
-            bytes: bytes,
-            whole: false,
-        };
-    }
     Printed {
-        bytes: bytes,
-        whole: second.whole,
+        bytes: first.bytes + second.bytes,
+        whole: first.whole && second.whole,
     }
 }
 

@@ -1,51 +1,28 @@
--- Words gathered bit by bit into one: it is zero exactly where all of them are.
---   Gathered   after j words          gathered_start, gathered_turn, gathered_says   the loop, and its answer
+-- Words gathered bit by bit into one, which is zero exactly where all of them are; and the words that wait, as a count of those that pass a test.
+--   gathered   one word more     counted   the count
 -- Assumes nothing.
-use Prim.Native.Nat.{ℕ, ◌+◌, ◌<◌, ◌≤◌}
-use mathlib.Core.Bool.{Bool, true, false}
-use mathlib.Core.List.{List}
-use mathlib.Core.Path.{◌≡◌, refl}
-use native.Mathlib.Omega.{arith}
-use borrow.Author.Tests.{eqb-true, eqb-false}
-use lib.Bits.{bit_or, or_add_and, and_le_l, and_le_r}
-use lib.Dec.{eqb}
-use lib.ListN.{length, get_or}
-use Rattle.lists.specs.Put.{part}
-use Rattle.image_clauses.specs.Clauses.{Says, AllZero}
-use Rattle.image_clauses.specs.Turns.{Left, left_start, left_turn, left_fails, left_end}
+use Rattle.std.specs.Prelude.{ℕ, ◌+◌, ◌<◌, ◌≡◌, ◌↔◌, Bool, true, false, cond, List, ◌∷◌, length, get_or, drop, bit_or, count_by}
+use Rattle.std.proofs.Common.{arith, refl, add-one, drop-cons}
+use Rattle.std.proofs.lemmas.Nat.{le_or_l, le_or_r}
+use Rattle.std.proofs.lemmas.List.Recursion.{is_count_by}
+use Rattle.plain.specs.Lists.{one_more, tally}
+use Rattle.rules.specs.Update.{waits}
+use Rattle.layout.specs.Words.{unword, unwords}
+use Rattle.image_clauses.specs.Clauses.{AllZero}
 
--- nothing is gathered exactly from nothing
-or_none : (a b : ℕ) → bit_or a b ≡ 0 → (a ≡ 0) × (b ≡ 0)
-or_none a b e =
-    let s = or_add_and a b in
-    let l = and_le_l a b in
-    let r = and_le_r a b in
-    (omega arith, omega arith)
+or_zero : (a b : ℕ) → bit_or a b ≡ 0 ↔ ((a ≡ 0) × (b ≡ 0))
+or_zero a b = (λ e. (omega (arith, le_or_l a b), omega (arith, le_or_r a b)), λ z. rw (z.0, z.1))
 
-or_some : (a b : ℕ) → 0 < bit_or a b → a ≡ 0 → 0 < b
-or_some a b h z = let s = or_add_and a b in omega arith
+pub gathered : (ws : List ℕ) (all i : ℕ) → i < length ws → AllZero ws ↔ ((all ≡ 0) × AllZero (drop i ws))
+    → AllZero ws ↔ ((bit_or all (get_or ws i 0) ≡ 0) × AllZero (drop (i + 1) ws))
+gathered ws all i h g =
+    let e : drop i ws ≡ get_or ws i 0 ∷ drop (i + 1) ws = rw (add-one i) (drop-cons ws i 0 h) in
+    let o = or_zero all (get_or ws i 0) in
+    (λ z. let d = g.0 z in let k = (rw e at d.1) in (o.1 (d.0, k.0), k.1), λ z. let d = o.0 z.0 in g.1 (d.0, rw e (d.1, z.1)))
 
-module _ (ws : List ℕ) (a c : ℕ) where
-  abbrev pub Gathered : ℕ → ℕ → Type 0
-  Gathered all j = (all ≡ 0 → Left (λ w. w ≡ 0) ws a c j) × (0 < all → ¬ AllZero (part ws a c))
-
-  pub gathered_start : Gathered 0 0
-  gathered_start = (λ z. left_start (λ w. w ≡ 0) ws a c, λ h. absurd (omega arith))
-
-  pub gathered_turn : (all j : ℕ) → a + c ≤ length ws → j < c → Gathered all j → Gathered (bit_or all (get_or ws (a + j) 0)) (j + 1)
-  gathered_turn all j fits more g =
-      let w = get_or ws (a + j) 0 in (
-        λ z. (let b = or_none all w z in left_turn (λ x. x ≡ 0) ws a c j fits more (g.0 b.0) b.1),
-        λ h. go h (eqb all 0) refl,
-      )
-    where
-      go : 0 < bit_or all (get_or ws (a + j) 0) → (t : Bool) → eqb all 0 ≡ t → ¬ AllZero (part ws a c)
-      go h true q =
-          let z = eqb-true all 0 q in
-          let s = or_some all (get_or ws (a + j) 0) h z in
-          left_fails (λ x. x ≡ 0) ws a c j fits more (g.0 z) (λ e. omega arith)
-      go h false q = g.1 (let z = eqb-false all 0 q in omega arith)
-
-  pub gathered_says : (all j : ℕ) → c ≤ j → Gathered all j → (t : Bool) → eqb all 0 ≡ t → Says t (AllZero (part ws a c))
-  gathered_says all j h g true q = left_end (λ x. x ≡ 0) ws a c j h (g.0 (eqb-true all 0 q))
-  gathered_says all j h g false q = g.1 (let z = eqb-false all 0 q in omega arith)
+pub counted : (ws : List ℕ) → tally waits (unwords ws) ≡ count_by (λ w. waits (unword w)) ws
+counted = is_count_by (λ ws. tally waits (unwords ws)) (λ w. waits (unword w)) refl (λ w ws. either (waits (unword w)) (tally waits (unwords ws)))
+  where
+    either : (b : Bool) (k : ℕ) → one_more b k ≡ cond b (1 + k) k
+    either true k = omega arith
+    either false k = refl

@@ -1,2 +1,3 @@
--- Gathered: words gathered bit by bit into one. Assumes nothing.
+-- Gathered: words gathered bit by bit into one. Stepwise: the same, told by the index. Assumes nothing.
 pub mod Gathered
+pub mod Stepwise

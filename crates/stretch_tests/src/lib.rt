@@ -2,11 +2,11 @@
 // The meanings are Rattle.image_clauses.specs.Clauses.
 #![tactic(auto)]
 
-ghost use Rattle.std.specs.Prelude.{◌≡◌, [], ◌∷◌, ◌+◌, ◌≤◌, length};
+ghost use Rattle.std.specs.Prelude.{◌≡◌, ◌+◌, ◌≤◌, length};
 ghost use Rattle.plain.specs.Lists.{tally};
 ghost use Rattle.lists.specs.Put.{part};
 ghost use Rattle.rules.specs.Update.{waits};
-ghost use Rattle.layout.specs.Words.{unwords};
+ghost use Rattle.layout.specs.Words.{unword, unwords};
 ghost use Rattle.image_clauses.specs.Clauses.{Says, AllZero, PairOk, UpdateOk};
 
 use pair::{Pair, Update};
@@ -18,10 +18,8 @@ pub fn zeros(img: &[u64], at: usize, count: usize) -> bool
     ensures { Says result (AllZero (part img.now at count)) }
 {
     let mut all = 0;
-    let mut j = 0;
-    while j < count {
-        all = all | img[at + j];
-        j += 1;
+    for w in &img[at..at + count] {
+        all |= *w;
     }
     all == 0
 }
@@ -30,60 +28,31 @@ pub fn zeros(img: &[u64], at: usize, count: usize) -> bool
 pub fn pair_ok(p: u64, n: u64, low: u64, high: u64) -> bool
     ensures { Says result (PairOk n low high p) }
 {
-    if Pair::id(p) >= n {
-        return false;
-    }
-    if p >= Pair::OPEN {
-        return false;
-    }
-    if p > high {
-        return false;
-    }
-    if p < low {
-        return false;
-    }
-    true
+    Pair(p).id() < n && p < Pair::OPEN && p <= high && low <= p
 }
 
 // Whether w is an update of an id below n, of a kind from 1 to `top`, that may wait at a level with the floor `low`.
 pub fn update_ok(w: u64, n: u64, low: u64, top: u64) -> bool
     ensures { Says result (UpdateOk n low top w) }
 {
+    // Kept: the kind as a number, for any word may stand in a lent image, and one of a kind above 3 reads as a Sink.
     let kind = Update::kind(w);
-    let pair = Update::pair_of(w);
-    if kind < 1 {
-        return false;
-    }
-    if kind > top {
-        return false;
-    }
-    if Pair::id(w) >= n {
+    let pair = w % Pair::OPEN;
+    if kind < 1 || kind > top || Pair(w).id() >= n {
         return false;
     }
     if kind == Update::DELETE {
-        if pair >= Pair::IDS {
-            return false;
-        }
-        return true;
+        pair < Pair::IDS
+    } else {
+        low <= pair
     }
-    if pair < low {
-        return false;
-    }
-    true
 }
 
-// 1 for the word of a Decrease or a Delete, 0 for any other.
-pub fn waits_one(w: u64) -> usize
-    ensures { (result ≡ tally waits (unwords (w ∷ []))) × (result ≤ 1) }
+// Whether the word w is a Decrease or a Delete.
+pub fn waits(w: u64) -> bool
+    ensures { result ≡ waits (unword w) }
 {
-    let kind = Update::kind(w);
-    if kind == Update::DECREASE {
-        return 1;
-    }
-    if kind == Update::DELETE {
-        return 1;
-    }
-    0
+    matches!(Update::from(w), Update::Decrease(_) | Update::Delete(_))
 }
 
 // How many of `count` words from `at` on are Decreases and Deletes.
@@ -91,11 +60,10 @@ pub fn waiting(img: &[u64], at: usize, count: usize) -> usize
     requires { at + count ≤ length img.now }
     ensures { result ≡ tally waits (unwords (part img.now at count)) }
 {
+    // Kept: a sum over a loop, for `iter().filter().count()` branches at each word: 0.80 s and not 0.52 s for 20,000 times 65,000 words.
     let mut found = 0;
-    let mut j = 0;
-    while j < count {
-        found += waits_one(img[at + j]);
-        j += 1;
+    for u in &img[at..at + count] {
+        found += usize::from(waits(*u));
     }
     found
 }

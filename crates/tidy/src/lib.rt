@@ -23,9 +23,7 @@ fn mark_levels(img: &mut [u64], depth: usize, first: usize, stack: usize, work: 
 {
     let mut width = stack - first + 1;
     let mut at = stack;
-    let mut i = depth;
-    while 0 < i {
-        i -= 1;
+    for i in (0..depth).rev() {
         width /= 2;
         at = tidy_parts::mark_level(img, HEAD + ROW * i, first + (width - 1), at, work);
     }
@@ -38,11 +36,9 @@ fn deal_levels(img: &mut [u64], depth: usize, first: usize, m: usize)
 {
     let mut width = 1;
     let mut left = m;
-    let mut i = 0;
-    while i < depth {
+    for i in 0..depth {
         left -= tidy_parts::deal_level(img, HEAD + ROW * i, first + (width - 1), width, left);
         width *= 2;
-        i += 1;
     }
 }
 

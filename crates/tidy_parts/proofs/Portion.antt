@@ -1,42 +1,22 @@
--- What one level gets of the ascending pairs that are left: its bound, and the words that the code stores; and a lent part that is back.
+-- What one level gets of the ascending pairs that are left: the words that the code stores; and a lent part that is back.
 -- Assumes nothing.
-use Prim.Native.Nat.{ℕ, suc, ◌+◌, ◌-◌, ◌<◌, ◌≤◌, min}
+use Prim.Native.Nat.{ℕ, suc, ◌+◌, ◌-◌, ◌≤◌, min}
 use mathlib.Core.Bool.{Bool, true, false}
 use mathlib.Core.Path.{◌≡◌, refl, sym, ap, ◌∙◌}
-use mathlib.Core.List.{List, [], ◌∷◌}
+use mathlib.Core.List.{List}
 use native.Mathlib.Omega.{arith}
 use borrow.Author.Tests.{leb-true, leb-false}
 use borrow.Rule.Slice.PartMut.{put_mid}
 use lib.Dec.{leb}
-use lib.ListN.{length, get_or, set, take, drop, replicate, length-take, drop_of_length-le}
-use lib.Seq.{sets, take-take, take_all, drop-cons, get_or-take, length-take-le, length-sets}
-use Rattle.plain.specs.Lists.{largest, pad}
+use lib.ListN.{length, set, take, drop, replicate, length-take}
+use lib.Seq.{sets, take-take, take_all}
+use Rattle.plain.specs.Lists.{pad}
 use Rattle.lists.specs.Put.{part, put-append, length-part, mid_put}
-use Rattle.lists.specs.Part.{get_or-part}
 use Rattle.rules.specs.Pair.{OPEN}
 use Rattle.rules.specs.Rebuild.{dealt_bound}
 use Rattle.sorting.specs.ById.{sort_id}
 use Rattle.sorting.proofs.LawById.{sort_id-length}
 use Rattle.tidy_parts.specs.Dealt.{DealsLevel}
-
--- ---- the bound
-
-pub bound_last : (xs : List ℕ) (from width left : ℕ) → from + left ≤ length xs → left ≤ width
-    → OPEN ≡ dealt_bound OPEN (take width (part xs from left)) (drop width (part xs from left))
-bound_last xs from width left g h =
-    let e : drop width (part xs from left) ≡ [] = drop_of_length-le (part xs from left) {i = width} (omega (arith, length-part xs from left g)) in
-    rw e refl
-
-pub bound_more : (xs : List ℕ) (from width left : ℕ) → from + left ≤ length xs → width < left → 1 ≤ width
-    → get_or xs (from + (width - 1)) 0 ≡ dealt_bound OPEN (take width (part xs from left)) (drop width (part xs from left))
-bound_more xs from width left g h p =
-    let S = part xs from left in
-    let l : length S ≡ left = length-part xs from left g in
-    let e : drop width S ≡ get_or S width 0 ∷ drop (suc width) S = drop-cons S width 0 (omega arith) in
-    let t : length (take width S) ≡ width = length-take-le width S (omega arith) in
-    let v : largest (take width S) ≡ get_or xs (from + (width - 1)) 0 =
-    ap (λ (i : ℕ). get_or (take width S) (i - 1) 0) t ∙ get_or-take width S (width - 1) 0 (omega arith) ∙ get_or-part xs from left (width - 1) (omega arith) in
-    sym (ap (dealt_bound OPEN (take width S)) e ∙ v)
 
 -- ---- the words
 
@@ -78,6 +58,3 @@ module _ (f : List ℕ → List ℕ) (same : (l : List ℕ) → length (f l) ≡
   lent_back =
       let k : at + m - at ≡ m = omega arith in
       rw (e, k) (mid_put xs (f (part xs at m)) at m (same (part xs at m) ∙ length-part xs at m g) g)
-
-  pub lent_length : length (put_mid at (at + m - at) xs zs) ≡ length xs
-  lent_length = ap length lent_back ∙ length-sets xs at (f (part xs at m))

@@ -1,26 +1,25 @@
 -- Entries read into words: a turn of the loop, what stays as it was, and what the words then hold of each id.
 -- Assumes nothing.
-use Prim.Native.Nat.{ℕ, zero, suc, ◌+◌, ◌%◌, ◌<◌, ◌≤◌, min}
+use Prim.Native.Nat.{ℕ, zero, suc, ◌+◌, ◌<◌, ◌≤◌}
 use mathlib.Core.Bool.{Bool, true, false}
 use mathlib.Core.Logic.{◌≢◌}
 use mathlib.Core.Path.{◌≡◌, refl, sym, ap, ◌∙◌}
 use mathlib.Core.List.{List, [], ◌∷◌, ◌++◌, append_assoc}
 use native.Mathlib.Omega.{arith}
 use native.Mathlib.Nat.{zero-add}
-use borrow.Author.Tests.{eqb-true, eqb-false, ne_eqb}
+use borrow.Author.Tests.{eqb-true, eqb-false}
 use lib.Dec.{eqb}
 use lib.ListN.{length, get_or, set, take, drop, replicate, length-append, length-set, get_or-replicate, take-append-drop, get_or-append}
 use lib.Seq.{sets, sets-eq, take-set-le, drop-set-lt, drop-drop, get_or_at, get_or-set_same, get_or-set_other, ext_get_or}
 use Rattle.plain.specs.Lists.{Every, keep}
 use Rattle.lists.specs.Put.{part, part-suc, length-part}
 use Rattle.lists.specs.Part.{get_or-part, part-set_behind}
-use Rattle.rules.specs.Pair.{OPEN, id_of}
-use Rattle.rules.specs.Update.{Held, absent, held, Update, decrease, sink, id_in, act, reads}
+use Rattle.rules.specs.Update.{Held, absent, held, Update, sink, id_in, act, reads}
 use Rattle.rules.specs.Heap.{stores, only}
 use Rattle.rules.specs.Firm.{Valid, ValidU}
 use Rattle.rules.proofs.Sort.{every_at}
-use Rattle.layout.proofs.Image.{pair_unword, unword-word}
-use Rattle.layout.specs.Words.{word, words, of_kind, unword, SINK}
+use Rattle.layout.proofs.Image.{unword-word}
+use Rattle.layout.specs.Words.{word, words, unword, SINK}
 use Rattle.tidy_parts.specs.Marks.{code, uncode, mark, marked, entries, codes, Placed, level_entries, Readable}
 
 -- ---- one word
@@ -32,39 +31,6 @@ uncode-code (held p) = refl
 pub code-uncode : (w : ℕ) → code (uncode w) ≡ w
 code-uncode zero = refl
 code-uncode (suc p) = refl
-
--- what `lowered` answers
-pub lowered-entered : (q p : ℕ) → q ≡ 0 → p + 1 ≡ code (act (uncode q) (decrease p))
-lowered-entered q p e = rw e (omega arith)
-
-pub lowered_smaller : (q p : ℕ) → p < q → p + 1 ≡ code (act (uncode q) (decrease p))
-lowered_smaller zero p l = absurd (omega arith)
-lowered_smaller (suc q) p l =
-    let m : min q p ≡ p = omega arith in
-    rw m (omega arith)
-
-pub lowered-kept : (q p : ℕ) → q ≢ 0 → q ≤ p → q ≡ code (act (uncode q) (decrease p))
-lowered-kept zero p d l = absurd (d refl)
-lowered-kept (suc q) p d l =
-    let m : min q p ≡ q = omega arith in
-    rw m refl
-
--- what `word_after` answers
-pub after_delete : (q kind p : ℕ) → kind ≡ 2 → 0 ≡ code (act (uncode q) (of_kind kind p))
-after_delete q kind p e = rw e refl
-
-pub after_decrease : (q kind p r : ℕ) → kind ≡ 1 → r ≡ code (act (uncode q) (decrease p)) → r ≡ code (act (uncode q) (of_kind kind p))
-after_decrease q kind p r e f = rw e f
-
-pub after-stored : (q kind p : ℕ) → kind ≢ 2 → kind ≢ 1 → p + 1 ≡ code (act (uncode q) (of_kind kind p))
-after-stored q kind p d e = rw (ne_eqb kind 1 e, ne_eqb kind 2 d) (omega arith)
-
--- what `mark_one` stores
-pub mark-word : (xs : List ℕ) (at w k r : ℕ) → k ≡ at + id_of (w % OPEN) → r ≡ code (act (uncode (get_or xs k 0)) (unword w)) → set xs k r ≡ mark xs at (unword w)
-unfolding mark
-mark-word xs at w k r e f =
-    let i : at + id_in (unword w) ≡ k = rw (pair_unword w) (sym e) in
-    rw (i, f) refl
 
 -- ---- the words that stay
 
@@ -117,14 +83,14 @@ module _ (xs ys : List ℕ) (at from j tag : ℕ) (e : ys ≡ marked xs at (entr
       ∙ sym (ap (marked xs at) m ∙ marked-append xs at (entries tag P) (unword (tag + w) ∷ []))
 
   -- the word that is read is one of the n
-  pub mark_placed : (n : ℕ) → j < n → from + n ≤ at → at ≤ length xs → Every (Placed tag at (length xs)) (part xs from n) → Placed tag at (length xs) (get_or ys (from + j) 0)
-  mark_placed n l g f h =
+  pub mark_placed : (n : ℕ) → j < n → (from + n ≤ at) × (at ≤ length xs) × Every (Placed tag at (length xs)) (part xs from n) → Placed tag at (length xs) (get_or ys (from + j) 0)
+  mark_placed n l h =
       let q : get_or ys (from + j) 0 ≡ get_or (part xs from n) j 0 = mark_read (omega arith) ∙ sym (get_or-part xs from n j l) in
-      rw q (every_at (Placed tag at (length xs)) (part xs from n) j (omega (arith, length-part xs from n (omega arith))) h)
+      rw q (every_at (Placed tag at (length xs)) (part xs from n) j (omega (arith, length-part xs from n (omega arith))) h.2)
 
 -- ---- one level
 
-module _ (xs ys : List ℕ) (row from at work : ℕ) (k : Readable xs row from at work) (e : ys ≡ marked xs work (entries SINK (part xs from (get_or xs (row + 1) 0)))) where
+module _ {xs ys : List ℕ} {row from at work : ℕ} (k : Readable xs row from at work) (e : ys ≡ marked xs work (entries SINK (part xs from (get_or xs (row + 1) 0)))) where
   updates_same : part ys at (get_or xs (row + 2) 0) ≡ part xs at (get_or xs (row + 2) 0)
   updates_same =
       ap (λ (l : List ℕ). part l at (get_or xs (row + 2) 0)) e ∙ part-marked xs work (entries SINK (part xs from (get_or xs (row + 1) 0))) at (get_or xs (row + 2) 0) k.updates_fit
@@ -134,8 +100,8 @@ module _ (xs ys : List ℕ) (row from at work : ℕ) (k : Readable xs row from a
       let l : length ys ≡ length xs = ap length e ∙ length-marked xs work (entries SINK (part xs from (get_or xs (row + 1) 0))) in
       rw (l, updates_same) k.updates_placed
 
-  pub level_marked : (zs : List ℕ) → zs ≡ marked ys work (entries 0 (part ys at (get_or xs (row + 2) 0))) → zs ≡ marked xs work (level_entries xs row from at)
-  level_marked zs d =
+  pub level_marked : {zs : List ℕ} → zs ≡ marked ys work (entries 0 (part ys at (get_or xs (row + 2) 0))) → zs ≡ marked xs work (level_entries xs row from at)
+  level_marked d =
       let A = entries SINK (part xs from (get_or xs (row + 1) 0)) in
       let B = entries 0 (part xs at (get_or xs (row + 2) 0)) in
       d ∙ ap (λ (l : List ℕ). marked ys work (entries 0 l)) updates_same ∙ ap (λ (l : List ℕ). marked l work B) e ∙ sym (marked-append xs work A B)

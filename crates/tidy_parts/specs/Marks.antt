@@ -67,11 +67,6 @@ abbrev pub squeezed : List ℕ → List ℕ
 squeezed [] = []
 squeezed (w ∷ ws) = cells (uncode w) ++ squeezed ws
 
--- the pair that the word w holds, if it holds one, stands at `to`, and r is how many it holds
-pub record SqueezesOne (r : ℕ) (xs ys : List ℕ) (to w : ℕ) : Type 0 where
-  pub number : r ≡ length (cells (uncode w))
-  pub words : ys ≡ sets xs to (cells (uncode w))
-
 -- the pairs that the n words from `from` on hold stand from `to` on, and r is their number
 pub record Squeezes (r : ℕ) (xs ys : List ℕ) (from n to : ℕ) : Type 0 where
   pub number : r ≡ length (squeezed (part xs from n))

@@ -1,2 +1,2 @@
--- Turns: turns of the loops. Assumes nothing.
-pub mod Turns
+-- Stored: what the library's moves leave, as one slice with some words stored. Assumes nothing.
+pub mod Stored

@@ -10,8 +10,8 @@ bounds-img-1 c = omega (arith, words_inside c.requires.1)
 pub bounds-img-2 : goal.bounds-img-2
 bounds-img-2 c = words_inside c.requires.1
 
-pub overflow_add-added : goal.overflow_add-added
-overflow_add-added c = omega (arith, added_small c.requires.1)
+pub overflow_add-r : goal.overflow_add-r
+overflow_add-r c = omega (arith, added_small c.requires.1)
 
 pub behind_stop-o-requires : goal.behind_stop-o-requires
 behind_stop-o-requires c =
@@ -30,8 +30,8 @@ overflow_add-rows c =
 
 pub load-h-requires : goal.load-h-requires
 load-h-requires c =
-    let f = c.requires.1 in
-    rw (c.clear.ensures, c.behind_stop-o.ensures) (load_asks f)
+    let a = load_asks c.requires.1 in
+    rw (c.clear.ensures, c.behind_stop-o.ensures) (omega (arith, a.0), omega (arith, a.1))
 
 pub rows_after-g-requires : goal.rows_after-g-requires
 rows_after-g-requires c =
@@ -40,8 +40,8 @@ rows_after-g-requires c =
 
 pub store-requires : goal.store-requires
 store-requires c =
-    let f = c.requires.1 in
-    rw (c.clear.ensures, c.behind_stop-o.ensures) (load_asks f)
+    let a = load_asks c.requires.1 in
+    rw (c.clear.ensures, c.behind_stop-o.ensures) (omega (arith, a.0), omega (arith, a.1))
 
 pub returns : goal.returns
 returns c =

@@ -14,4 +14,4 @@ pub store-requires : goal.store-requires
 store-requires c = rw (c.load-h.ensures, c.clear.ensures) (store_asks c.requires.1)
 
 pub returns : goal.returns
-returns c = λ d f. rw (c.store.ensures, c.fresh_rows-g.ensures, c.load-h.ensures, c.clear.ensures) (wiped f)
+returns c = λ d f. rw (c.store.ensures, c.fresh_rows.ensures, c.load-h.ensures, c.clear.ensures) (wiped f)

@@ -1,8 +1,6 @@
 -- The loop of proofs/Going.antt, from where proofs/Starts.antt starts it.
 -- Assumes nothing.
-use Prim.Native.Nat.{◌+◌, ◌-◌, ◌*◌, ◌≤◌}
-use mathlib.Core.Path.{◌≡◌}
-use lib.ListN.{length}
+use Rattle.std.proofs.Common.{◌+◌, ◌-◌, ◌*◌, ◌≤◌, ◌≡◌, length}
 use Rattle.rules.specs.Pair.{IDS, ROWS}
 use Rattle.rules.specs.Heap.{waiting}
 use Rattle.layout.specs.Image.{HEAD, ROW}
@@ -13,9 +11,16 @@ use Rattle.descent.proofs.Going.{Going}
 use Rattle.descent.proofs.go_down.Given as goal
 
 abbrev pub invariant-loop-i : goal.invariant-loop-i
-invariant-loop-i l = (l.i ≤ l.levels) × (l.levels ≤ ROWS) × (length l.img ≡ length l.initial.img) × (l.held ≡ 0) × (l.first ≡ length (top_of l.initial.img)) × (l.work ≡ work_place (length (top_of l.initial.img)) l.levels l.n)
-    × (waiting (heap_of l.initial.img) ≤ IDS) × Going l.n l.levels (top_of l.initial.img) (later_of l.initial.img) (heap_of l.initial.img) l.i l.at l.passed l.ended l.width l.floor l.img
-    × (length (top_of l.initial.img) ≡ HEAD + ROW * l.levels)
+invariant-loop-i l = record {
+  up_to : l.i ≤ l.levels;
+  few : l.levels ≤ ROWS;
+  none : l.elements ≡ 0;
+  first : l.first ≡ length (top_of l.initial.img);
+  work : l.work ≡ work_place (length (top_of l.initial.img)) l.levels l.n;
+  waits : waiting (heap_of l.initial.img) ≤ IDS;
+  going : Going l.n l.levels (top_of l.initial.img) (later_of l.initial.img) (heap_of l.initial.img) l.i l.at l.passed l.ended l.width l.floor l.img;
+  top : length (top_of l.initial.img) ≡ HEAD + ROW * l.levels;
+}
 
 abbrev pub decreases-loop-i : goal.decreases-loop-i
 decreases-loop-i l = l.levels - l.i

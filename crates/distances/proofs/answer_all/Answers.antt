@@ -15,6 +15,6 @@ slice_bounds-print-end-2 c =
 pub returns : goal.returns
 returns c =
     let t = c.answer-end in
-    let n = c.read_all-n in
+    let n = c.read_all-came in
     let p : c.print.result.bytes ≡ t.result = omega (arith, c.print.ensures, length-take-le t.result t.new.out (omega (arith, t.ensures.1))) in
     record { answers = rw p t.ensures.0; within = n.ensures.0; ends = rw p t.ensures.1 }

@@ -6,27 +6,7 @@ use native.Mathlib.Omega.{arith}
 use Rattle.rules.specs.Pair.{levels}
 use Rattle.layout.specs.Image.{elements_from, stack_words}
 use Rattle.fresh_image.proofs.Words.{fresh_words}
-use lib.ListN.{length-set}
-use lib.Pow.{pow_pos}
 use Rattle.fresh_image.proofs.make_fresh.Goals as goal
-
-pub overflow_sub-stack : goal.overflow_sub-stack
-overflow_sub-stack c = omega (arith, pow_pos (levels c.args.n))
-
-pub bounds-img-1 : goal.bounds-img-1
-bounds-img-1 c = simp length-set (omega arith)
-
-pub bounds-img-3 : goal.bounds-img-3
-bounds-img-3 c = simp length-set (omega arith)
-
-pub bounds-img-4 : goal.bounds-img-4
-bounds-img-4 c = simp length-set (omega arith)
-
-pub bounds-img-5 : goal.bounds-img-5
-bounds-img-5 c = simp length-set (omega (arith, pow_pos (levels c.args.n)))
-
-pub open_bounds-requires : goal.open_bounds-requires
-open_bounds-requires c = simp length-set (omega (arith, pow_pos (levels c.args.n), c.depth_of-d.ensures.0))
 
 pub returns : goal.returns
 returns c =

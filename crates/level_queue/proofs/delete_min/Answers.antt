@@ -1,17 +1,12 @@
+use Rattle.std.proofs.lemmas.Result.{err_from_is_err_and}
 use Rattle.level_queue.proofs.Returns.{good_number, min_unsound, min_given}
 use Rattle.level_queue.proofs.delete_min.Goals as goal
 
-pub returns-then-k-ne0 : goal.returns-then-k-ne0
-returns-then-k-ne0 c =
-    min_unsound c.args.image.now c.refusal-k.result c.refusal-k.ensures c.if-k-ne0.true
-
-pub inner_delete_min-p-requires : goal.inner_delete_min-p-requires
-inner_delete_min-p-requires c =
-    good_number c.args.image.now c.refusal-k.result c.refusal-k.ensures c.if-k-ne0.false
+pub returns-in_err-judge : goal.returns-in_err-judge
+returns-in_err-judge c =
+    let p = err_from_is_err_and c.from_residual.result c.from_residual.ensures.1 in
+    rw (p.1, p.2) (min_unsound c.args.image.now _ c.in_err-judge.ensures)
 
 pub returns : goal.returns
 returns c =
-    let d = c in
-    let r = d.refusal-k in
-    let ws = d.args.image.now in
-    min_given ws (good_number ws r.result r.ensures d.if-k-ne0.false) d.inner_delete_min-p.result _ d.inner_delete_min-p.ensures _ c.given.ensures
+    let ws = c.args.image.now in min_given ws (good_number ws c.in_ok-judge.ensures) _ _ c.inner_delete_min.ensures

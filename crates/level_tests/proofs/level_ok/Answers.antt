@@ -1,42 +1,20 @@
--- Each return is one law of `Passes` on the answers of the functions called.
+-- The last line is one law of `Passes` on the answers of the functions called.
 -- Assumes nothing.
-use mathlib.Core.Path.{refl}
-use native.Mathlib.Omega.{arith}
-use Rattle.image_clauses.specs.Clauses.{floor_of, top_kind}
-use Rattle.image_clauses.specs.Turns.{says_yes}
-use Rattle.image_clauses.specs.Passes.{room_fails, padding_fails, pairs_fail, level_read}
+use Rattle.std.proofs.Common.{arith}
+use Rattle.image_clauses.specs.Passes.{pairs_fail, level_read}
 use Rattle.level_tests.proofs.level_ok.Goals as goal
 
-pub returns-then-count-size : goal.returns-then-count-size
-returns-then-count-size c =
-    let s = c in
-    let a = s.args in
-    room_fails a.img.now a.n a.levels a.i a.at a.size (floor_of a.img.now a.i) (top_kind a.i) s.requires.2 refl refl a.last.now _ (omega arith)
-
-pub returns-then-not-zeros : goal.returns-then-not-zeros
-returns-then-not-zeros c =
-    let s = c in
-    let a = s.args in
-    let z = c.zeros in
-    padding_fails a.img.now a.n a.levels a.i a.at a.size (floor_of a.img.now a.i) (top_kind a.i) s.requires.2 refl refl a.last.now _ z.result (c.if-not-zeros.true) z.ensures
-
-pub returns-then-not-read_pairs : goal.returns-then-not-read_pairs
-returns-then-not-read_pairs c =
-    let s = c in
-    let a = s.args in
-    let t = c.top_kind-top in
-    let f = c.floor_of-low in
-    let p = c.read_pairs in
-    pairs_fail a.img.now a.n a.levels a.i a.at a.size f.result t.result s.requires.2 f.ensures t.ensures a.last.now _ _ p.result (c.if-not-read_pairs.true) p.ensures
-
-pub returns : goal.returns
-returns c =
-    let s = c in
-    let a = s.args in
-    let z = c.zeros in
+pub returns-then-read_pairs : goal.returns-then-read_pairs
+returns-then-read_pairs c =
+    let a = c.args in
     let f = c.floor_of-low in
     let t = c.top_kind-top in
-    let p = c.read_pairs in
-    let u = c.read_updates in
-    level_read a.img.now a.n a.levels a.i a.at a.size f.result t.result s.requires.2 f.ensures t.ensures a.last.now _ _ p.result c.if-count-size.false (says_yes z.result (c.if-not-zeros.false) z.ensures)
-    (c.if-not-read_pairs.false) p.ensures u.result u.ensures
+    let from = c.elements_at.ensures in
+    level_read a.img.now a.e.n a.e.levels a.i a.at a.size f.result t.result c.requires.1 f.ensures t.ensures _ _ _ (omega arith) (rw from at c.if-not-zeros.ensures) (rw from at c.if-read_pairs.ensures) _ c.read_updates.ensures
+
+pub returns-else-read_pairs : goal.returns-else-read_pairs
+returns-else-read_pairs c =
+    let a = c.args in
+    let f = c.floor_of-low in
+    let t = c.top_kind-top in
+    rw c.if-read_pairs.false (pairs_fail a.img.now a.e.n a.e.levels a.i a.at a.size f.result t.result c.requires.1 f.ensures t.ensures _ _ _ (rw c.elements_at.ensures at c.if-read_pairs.ensures))

@@ -1,15 +1,12 @@
--- A byte stored where there is room (keep_room), and none where there is not (keep_full).
+-- As many bytes as find room (keeps).
 -- Assumes nothing.
-use Rattle.lines.proofs.Gathering.{keep_room, keep_full}
-use native.Mathlib.Omega.{arith}
+use Rattle.std.proofs.Common.{◌≡◌, ◌+◌, ◌-◌, arith}
+use Rattle.lines.proofs.Gathering.{keeps}
 use Rattle.lines.proofs.keep.Goals as goal
-
-pub returns-then-held-lt-ROOM : goal.returns-then-held-lt-ROOM
-returns-then-held-lt-ROOM c =
-    let a = c.args in
-    (keep_room a.line.now a.held a.b (omega arith), omega arith)
 
 pub returns : goal.returns
 returns c =
     let a = c.args in
-    (keep_full a.line.now a.held a.b (omega arith), omega arith)
+    let n = c.min-n.result in
+    let k : a.held + n - a.held ≡ n = omega arith in
+    (rw (c.copy_from_slice.ensures.after, k) (keeps a.line.now a.held n a.piece.now (omega arith) (omega arith) c.min-n.ensures), omega arith)

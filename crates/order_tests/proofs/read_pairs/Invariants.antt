@@ -1,17 +1,16 @@
--- The pairs left to test say the same as all of them (`PairsLeft`), and so do the entries left to note (`Remain`).
+-- What a reader answers on the pairs left, with the table as it is, it answers on all of them, with the table as it was.
 -- Assumes nothing.
-use Prim.Native.Nat.{◌-◌, ◌≤◌}
-use mathlib.Core.Path.{◌≡◌}
-use lib.ListN.{length}
+use Rattle.std.proofs.Common.{Bool, List, ℕ, drop}
 use Rattle.lists.specs.Put.{part}
 use Rattle.rules.specs.Heap.{stores}
-use Rattle.image_clauses.specs.Turns.{PairsLeft, rest}
-use Rattle.image_clauses.specs.Marks.{Remain}
+use Rattle.image_clauses.specs.Clauses.{Pairs}
+use Rattle.image_clauses.specs.Marks.{Read}
+use Rattle.order_tests.specs.Mark.{numbers}
 use Rattle.order_tests.proofs.read_pairs.Given as goal
 
-abbrev pub invariant-loop-j : goal.invariant-loop-j
-invariant-loop-j l = (l.j ≤ l.count) × (length l.last ≡ length l.initial.last) × PairsLeft l.n l.low l.high l.img l.at l.count l.next l.j
-    × Remain l.initial.last l.last (stores (part l.img l.at l.count)) (stores (rest l.img l.at l.count l.j))
-
-abbrev pub decreases-loop-j : goal.decreases-loop-j
-decreases-loop-j l = l.count - l.j
+abbrev pub invariant-loop-p : goal.invariant-loop-p
+invariant-loop-p l =
+    let left = drop l.p-index l.p-items in
+    let all = part l.img l.at l.count in
+    (r : Bool) (after : List ℕ) → Read (Pairs l.n l.low l.high l.next left) r (numbers l.last) after (stores left)
+    → Read (Pairs l.n l.low l.high 0 all) r (numbers l.initial.last) after (stores all)

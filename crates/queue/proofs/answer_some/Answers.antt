@@ -15,6 +15,6 @@ slice_bounds-print-end-2 c =
 pub returns : goal.returns
 returns c =
     let s = c.serve-s in
-    let n = c.read_some-n in
+    let n = c.read_some-came in
     let p : c.print.result.bytes ≡ s.result.end = omega (arith, c.print.ensures, length-take-le s.result.end s.new.out (omega (arith, s.ensures.2))) in
     record { goes = rw p s.ensures.0; within = n.ensures.0; fits = s.ensures.1; ends = rw p s.ensures.2 }

@@ -1,42 +1,47 @@
 -- By the cases of the answer. A run that is not refused had an accepted sheet and a word for each vertex (reached_known), so the sheet holds its first number and the text has room.
 -- Assumes nothing.
-use native.Mathlib.Omega.{arith}
+use Rattle.std.proofs.Common.{◌≡◌, ◌∙◌, arith, rules, ap, length}
+use Rattle.report.specs.Report.{Reports}
 use Rattle.report.proofs.Reports.{reached_known, reports_refused, reports_reached}
+use Rattle.report.proofs.report.Goals.{in-Err, in-Ok}
 use Rattle.report.proofs.report.Goals as goal
 
 pub word_at-n-requires : goal.word_at-n-requires
 word_at-n-requires c =
-    let d = c in
-    let a = d.args in
-    let g = c.in-Reached in
-    let h = reached_known a.sheet.now a.distances.now a.image.now d.distances-a.result g.k d.distances-a.new.distances d.distances-a.new.image g.is d.distances-a.ensures in
+    let a = c.args in
+    let g = c.in-Ok in
+    let h = reached_known a.sheet.now a.distances.now a.image.now c.distances.result g.k c.distances.new.distances c.distances.new.image g.is c.distances.ensures in
     omega (arith, h.0.exact_length)
 
 pub put_rows-requires : goal.put_rows-requires
 put_rows-requires c =
-    let d = c in
-    let a = d.args in
-    let g = c.in-Reached in
-    let h = reached_known a.sheet.now a.distances.now a.image.now d.distances-a.result g.k d.distances-a.new.distances d.distances-a.new.image g.is d.distances-a.ensures in
+    let a = c.args in
+    let g = c.in-Ok in
+    let h = reached_known a.sheet.now a.distances.now a.image.now c.distances.result g.k c.distances.new.distances c.distances.new.image g.is c.distances.ensures in
     let w = c.word_at-n.ensures.0 in
-    let l = c.put_reached-at.ensures.1 in
-    (omega (arith, h.1, w), omega (arith, h.1, w, l))
+    let p = c.reached.ensures in
+    let n = c.new-text.ensures in
+    (omega (arith, h.1, w), omega (arith, h.1, w, p.1, p.0.many, ap length n.1, n.2))
 
-pub returns-in-Refused : goal.returns-in-Refused
-returns-in-Refused c =
-    let d = c in
-    let a = d.args in
-    let g = c.in-Refused in
-    let p = c.put_refused in
-    (reports_refused a.sheet.now a.distances.now a.image.now a.out.now d.distances-a.result g.k d.distances-a.new.distances d.distances-a.new.image p.result p.new.out g.is d.distances-a.ensures p.ensures.0, omega (arith, p.ensures.1))
-
-pub returns-in-Reached : goal.returns-in-Reached
-returns-in-Reached c =
-    let d = c in
-    let a = d.args in
-    let g = c.in-Reached in
-    let w = c.word_at-n in
-    let p = c.put_reached-at in
-    let q = c.put_rows in
-    let h = reached_known a.sheet.now a.distances.now a.image.now d.distances-a.result g.k d.distances-a.new.distances d.distances-a.new.image g.is d.distances-a.ensures in
-    (reports_reached a.sheet.now a.distances.now a.image.now a.out.now d.distances-a.result g.k d.distances-a.new.distances d.distances-a.new.image w.result p.result p.new.out q.result q.new.out g.is d.distances-a.ensures w.ensures.0 p.ensures.0 q.ensures.0, omega (arith, h.1, w.ensures.0, p.ensures.1, q.ensures.1))
+pub returns : goal.returns
+returns c =
+    let a = c.args in
+    let t = c.match-distances.text in
+    let n = c.new-text.ensures in
+    elim c.match-distances.branch [
+      | in-Err w ↦
+          let p = w.refused.ensures in
+          let s : Reports a.sheet.now a.distances.now a.image.now a.out.now t.end c.distances.new.distances c.distances.new.image t.bytes.now =
+          rw w.text-is (reports_refused c.distances.result w.in-Err.r w.in-Err.is c.distances.ensures w.from.ensures n.1 n.2 p.0) in
+          let l : t.bytes.ghost_name ≡ c.new-text.result.bytes.ghost_name = rw w.text-is p.0.lent in
+          (search (rules, s, l), rw w.text-is (omega (arith, p.1, n.2)))
+      | in-Ok w ↦
+          let g = w.in-Ok in
+          let p = w.reached.ensures in
+          let q = w.put_rows.ensures in
+          let h = reached_known a.sheet.now a.distances.now a.image.now c.distances.result g.k c.distances.new.distances c.distances.new.image g.is c.distances.ensures in
+          let s : Reports a.sheet.now a.distances.now a.image.now a.out.now t.end c.distances.new.distances c.distances.new.image t.bytes.now =
+          rw w.text-is (reports_reached c.distances.result g.k w.word_at-n.result g.is c.distances.ensures w.word_at-n.ensures.0 n.1 n.2 p.0 q.0) in
+          let l : t.bytes.ghost_name ≡ c.new-text.result.bytes.ghost_name = rw w.text-is (q.0.lent ∙ p.0.lent) in
+          (search (rules, s, l), rw w.text-is (omega (arith, h.1, w.word_at-n.ensures.0, p.1, q.1, n.2)))
+    ]

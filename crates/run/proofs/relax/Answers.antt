@@ -3,7 +3,9 @@ use mathlib.Core.Path.{refl}
 use native.Mathlib.Omega.{arith}
 use borrow.Author.Rules.{rules}
 use lib.ListN.{take}
-use Rattle.sheet_format.specs.Sheet.{row}
+use Rattle.sheet_format.specs.Numbers.{word}
+use Rattle.sheet_words.specs.Rows.{half_edges_of}
+use Rattle.sheet_words.proofs.Halves.{length-halves}
 use Rattle.run.specs.Turns.{relaxed}
 use Rattle.run.proofs.Relaxing.{relax_begins, relax_ends, row_has, row_turn}
 use Rattle.run.proofs.relax.Goals as goal
@@ -11,47 +13,31 @@ use Rattle.run.proofs.relax.Goals as goal
 pub loop-j-init : goal.loop-j-init
 loop-j-init c =
     let a = c.args in
-    (omega arith, refl, refl, λ t g o. relax_begins a.n t a.d (row a.sheet.now a.u) a.distances.now a.image.now g)
+    (refl, refl, λ n t g o. relax_begins n t a.d (half_edges_of a.row) a.distances.now a.image.now g)
 
 pub offer-requires : goal.offer-requires
 offer-requires c =
-    let weigh = c in
-    let aim = weigh in
-    let test = aim in
-    let l = test.loop-j in
-    let at = test in
-    let s = at in
-    let a = s.args in
-    let p = s.requires.2 in (
-      a.n,
-      relaxed p.0 a.d (take l.j (row a.sheet.now a.u)),
-      l.invariant.3 p.0 p.1 p.2,
-      p.2 _ _ (row_has a.sheet.now a.u _ _ at.row_at-at.ensures l.j test.loop-j-test.true _ _ aim.target_at-v.ensures weigh.weight_at-w.ensures),
-    )
+    let a = c.args in
+    let j = c.loop-j.j in
+    let (n, p) = c.requires in
+    (n, relaxed p.0 a.d (take j (half_edges_of a.row)), c.loop-j.invariant.2 n p.0 p.1 p.2, p.2 _ _ (row_has _ _ _ j c.loop-j-test.true _ _ c.target-v.ensures c.weight-w.ensures))
 
 pub loop-j-preserved : goal.loop-j-preserved
 loop-j-preserved c =
-    let gave = c in
-    let weigh = gave in
-    let aim = weigh in
-    let test = aim in
-    let l = test.loop-j in
-    let at = test in
-    let a = at.args in (
+    let a = c.args in
+    let j = c.loop-j.j in (
       search rules,
       search rules,
-      search rules,
-      λ t g o.
-          row_turn a.sheet.now a.u _ _ at.row_at-at.ensures l.j test.loop-j-test.true _ _ aim.target_at-v.ensures weigh.weight_at-w.ensures a.n t a.d _ _
-          (gave.offer.ensures a.n (relaxed t a.d (take l.j (row a.sheet.now a.u))) (l.invariant.3 t g o)
-          (o _ _ (row_has a.sheet.now a.u _ _ at.row_at-at.ensures l.j test.loop-j-test.true _ _ aim.target_at-v.ensures weigh.weight_at-w.ensures))),
+      λ n t g o.
+          row_turn _ _ _ j c.loop-j-test.true _ _ c.target-v.ensures c.weight-w.ensures n t a.d _ _
+          (c.offer.ensures n (relaxed t a.d (take j (half_edges_of a.row))) (c.loop-j.invariant.2 n t g o)
+          (o _ _ (row_has _ _ _ j c.loop-j-test.true _ _ c.target-v.ensures c.weight-w.ensures))),
     )
 
 pub returns : goal.returns
 returns c =
+    let a = c.args in
     let l = c.loop-j in
-    let at = c in
-    let a = at.args in
-    λ t g o.
-    relax_ends a.n t a.d (row a.sheet.now a.u) l.distances l.image l.j (omega (arith, at.row_at-at.ensures.counted, c.loop-j-test.false))
-    (l.invariant.3 t g o)
+    λ n t g o.
+    relax_ends n t a.d (half_edges_of a.row) l.distances l.image l.j (omega (arith, length-halves (word a.row.bytes.now) a.row.first a.row.count, c.loop-j-test.false))
+    (l.invariant.2 n t g o)

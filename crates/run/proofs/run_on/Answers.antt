@@ -36,8 +36,8 @@ begin-requires c =
     let r = run_range a.sheet.now a.distances.now a.image.now a.n g.0 a.source g.1 in
     (r, omega (arith, g.1.source_below), known.if-distances-n.false, omega (arith, room.if-image-need.false, known.need_of-need.ensures))
 
-pub settle_all-reached-requires : goal.settle_all-reached-requires
-settle_all-reached-requires c =
+pub settle_all-requires : goal.settle_all-requires
+settle_all-requires c =
     let begun = c in
     let room = begun in
     let known = room in
@@ -57,4 +57,4 @@ returns c =
     let a = s.args in
     let g = s.requires in
     run_answers a.sheet.now a.distances.now a.image.now a.n g.0 a.source g.1
-    known.if-distances-n.false (omega (arith, room.if-image-need.false, known.need_of-need.ensures)) _ _ begun.begin.ensures _ _ _ ran.settle_all-reached.ensures
+    known.if-distances-n.false (omega (arith, room.if-image-need.false, known.need_of-need.ensures)) _ _ begun.begin.ensures _ _ _ ran.settle_all.ensures

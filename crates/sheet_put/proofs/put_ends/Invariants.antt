@@ -4,13 +4,10 @@ use Rattle.sheet_put.specs.Sheet.{row_ends}
 use Rattle.sheet_order.specs.Words.{row_of}
 use Rattle.sheet_format.specs.Numbers.{bytes_of}
 use lib.Seq.{sets}
-use Prim.Native.Nat.{ℕ, ◌-◌, ◌≤◌, ◌<◌}
+use Prim.Native.Nat.{ℕ, ◌≤◌, ◌<◌}
 use mathlib.Core.Path.{◌≡◌}
 use lib.ListN.{length, get_or}
 use Rattle.sheet_put.proofs.put_ends.Given as goal
 
 abbrev pub invariant-loop-u : goal.invariant-loop-u
-invariant-loop-u l = (l.u ≤ l.n) × (length l.t ≡ length l.initial.t) × (l.j ≤ length l.words) × ((i : ℕ) → i < l.j → row_of (get_or l.words i 0) < l.u) × (l.t ≡ sets l.initial.t 24 (bytes_of (row_ends l.words l.u)))
-
-abbrev pub decreases-loop-u : goal.decreases-loop-u
-decreases-loop-u l = l.n - l.u
+invariant-loop-u l = (l.j ≤ length l.words) × ((i : ℕ) → i < l.j → row_of (get_or l.words i 0) < l.u) × (l.t ≡ sets l.initial.t 24 (bytes_of (row_ends l.words l.u)))

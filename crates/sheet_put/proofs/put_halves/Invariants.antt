@@ -4,13 +4,10 @@ use Rattle.sheet_order.specs.Words.{halves_of}
 use Rattle.sheet_format.specs.Writer.{pairs}
 use Rattle.sheet_format.specs.Numbers.{bytes_of}
 use lib.Seq.{sets}
-use Prim.Native.Nat.{◌-◌, ◌*◌, ◌≤◌}
+use Prim.Native.Nat.{◌*◌}
 use mathlib.Core.Path.{◌≡◌}
-use lib.ListN.{length, take}
+use lib.ListN.{take}
 use Rattle.sheet_put.proofs.put_halves.Given as goal
 
 abbrev pub invariant-loop-j : goal.invariant-loop-j
-invariant-loop-j l = (l.j ≤ length l.words) × (length l.t ≡ length l.initial.t) × (l.t ≡ sets l.initial.t (4 * l.k) (bytes_of (pairs (halves_of (take l.j l.words)))))
-
-abbrev pub decreases-loop-j : goal.decreases-loop-j
-decreases-loop-j l = length l.words - l.j
+invariant-loop-j l = l.t ≡ sets l.initial.t (4 * l.k) (bytes_of (pairs (halves_of (take l.j l.words))))

@@ -1,26 +1,9 @@
+-- `sheet_records::doubled` meets its contract: what `any` tells of the windows is told by place (doubled_by).
 -- Assumes nothing.
-use Rattle.sheet_records.proofs.Turns.{doubled_here, doubled_past, doubled_none}
-use mathlib.Core.Path.{refl, sym, ◌∙◌}
-use native.Mathlib.Omega.{arith}
-use borrow.Author.Rules.{rules}
+use Rattle.std.proofs.Common.{arith}
+use Rattle.std.proofs.lemmas.Grind.{common_steps}
+use Rattle.sheet_records.proofs.Turns.{doubled_by}
 use Rattle.sheet_records.proofs.doubled.Goals as goal
 
-pub loop-i-init : goal.loop-i-init
-loop-i-init c = (search rules, refl)
-
-pub returns-then-words-i : goal.returns-then-words-i
-returns-then-words-i c =
-    let a = c.args in
-    let l = c.loop-i in
-    sym (l.invariant.1 ∙ doubled_here l.i a.words.now (omega arith) c.if-words-i.true)
-
-pub loop-i-preserved : goal.loop-i-preserved
-loop-i-preserved c =
-    let a = c.args in
-    let l = c.loop-i in (search rules, l.invariant.1 ∙ doubled_past l.i a.words.now (omega arith) c.if-words-i.false)
-
 pub returns : goal.returns
-returns c =
-    let a = c.args in
-    let l = c.loop-i in
-    sym (l.invariant.1 ∙ doubled_none l.i a.words.now (omega arith))
+returns c = doubled_by c.args.words.now c.any.result (grind (arith, common_steps))

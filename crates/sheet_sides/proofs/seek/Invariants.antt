@@ -1,12 +1,9 @@
 -- The loop keeps that every target before j is below u.
 -- Assumes nothing.
-use Prim.Native.Nat.{ℕ, ◌+◌, ◌-◌, ◌*◌, ◌≤◌, ◌<◌}
+use Prim.Native.Nat.{ℕ, ◌+◌, ◌*◌, ◌<◌}
 use Rattle.sheet_format.specs.Numbers.{word}
 use Rattle.sheet_words.specs.Places.{half_words}
 use Rattle.sheet_sides.proofs.seek.Given as goal
 
 abbrev pub invariant-loop-j : goal.invariant-loop-j
-invariant-loop-j l = (l.j ≤ l.count) × ((i : ℕ) → i < l.j → word l.s (l.first + half_words * i) < l.u)
-
-abbrev pub decreases-loop-j : goal.decreases-loop-j
-decreases-loop-j l = l.count - l.j
+invariant-loop-j l = (i : ℕ) → i < l.j → word l.row.bytes.now (l.row.first + half_words * i) < l.u

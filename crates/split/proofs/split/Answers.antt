@@ -1,39 +1,26 @@
-use Rattle.split.proofs.Turns.{split_small, split_starts, split_goes, split_stays, split_ends}
+use Rattle.split.proofs.Turns.{split_small, split_goes, split_stays, split_ends}
 use native.Mathlib.Omega.{arith}
-use borrow.Author.Rules.{rules}
-use lib.ListN.{length-set}
 use Rattle.split.proofs.split.Goals as goal
 use Rattle.split.proofs.split.Goals.{then-v-p, else-v-p}
-
-pub loop-j-init : goal.loop-j-init
-loop-j-init c =
-    let a = c.args in
-    (search rules, search rules, search rules, split_starts a.img.now a.area a.to a.tag a.v)
 
 pub overflow_add-img : goal.overflow_add-img
 overflow_add-img c =
     let l = c.loop-j in
-    let s = c in
-    let a = s.args in
-    omega (arith, split_small a.img.now a.area a.to a.tag a.v l.j l.img l.k l.invariant.3 (omega arith) (omega arith) a.m (omega arith) (omega arith) s.requires.3)
+    let a = c.args in
+    omega (arith, split_small a.img.now a.area a.to a.tag a.v l.j l.img l.k l.invariant.1 (omega arith) (omega arith) a.m (omega arith) (omega arith) c.requires.3)
 
 pub loop-j-preserved : goal.loop-j-preserved
 loop-j-preserved c =
     let l = c.loop-j in
-    let s = c in
-    let a = s.args in
+    let a = c.args in
     elim c.if-v-p.branch [
       | then-v-p w ↦ (
         omega arith,
-        omega arith,
-        rw w.img-is (simp length-set l.invariant.2),
-        rw (w.img-is, w.k-is) (split_goes a.img.now a.area a.to a.tag a.v l.j l.img l.k l.invariant.3 (omega arith) (omega arith) w.if-v-p.true),
+        rw (w.img-is, w.k-is) (split_goes a.img.now a.area a.to a.tag a.v l.j l.img l.k l.invariant.1 (omega arith) (omega arith) w.if-v-p.true),
       )
       | else-v-p w ↦ (
         omega arith,
-        omega arith,
-        rw w.img-is (simp length-set l.invariant.2),
-        rw (w.img-is, w.k-is) (split_stays a.img.now a.area a.to a.tag a.v l.j l.img l.k l.invariant.3 (omega arith) (omega arith) w.if-v-p.false),
+        rw (w.img-is, w.k-is) (split_stays a.img.now a.area a.to a.tag a.v l.j l.img l.k l.invariant.1 (omega arith) (omega arith) w.if-v-p.false),
       )
     ]
 
@@ -41,4 +28,4 @@ pub returns : goal.returns
 returns c =
     let l = c.loop-j in
     let a = c.args in
-    rw c.clear.ensures (split_ends a.img.now a.area a.to a.tag a.v l.j a.m l.img l.k l.invariant.3 (omega arith))
+    rw c.clear.ensures (split_ends a.img.now a.area a.to a.tag a.v l.j a.m l.img l.k l.invariant.1 (omega arith))

@@ -1,11 +1,8 @@
--- `stretch_tests::zeros` meets its contract: the words are gathered into one (`gathered_turn`), which is tested once.
+-- The words are all zero exactly where the gathered word is zero and the words left are all zero.
 -- Assumes nothing.
-use Rattle.stretch_tests.proofs.Gathered.{Gathered}
-use Prim.Native.Nat.{◌-◌, ◌≤◌}
+use Rattle.std.proofs.Common.{◌≡◌, ◌↔◌, drop}
+use Rattle.image_clauses.specs.Clauses.{AllZero}
 use Rattle.stretch_tests.proofs.zeros.Given as goal
 
-abbrev pub invariant-loop-j : goal.invariant-loop-j
-invariant-loop-j l = (l.j ≤ l.count) × Gathered l.img l.at l.count l.all l.j
-
-abbrev pub decreases-loop-j : goal.decreases-loop-j
-decreases-loop-j l = l.count - l.j
+abbrev pub invariant-loop-w : goal.invariant-loop-w
+invariant-loop-w l = AllZero l.w-items ↔ ((l.all ≡ 0) × AllZero (drop l.w-index l.w-items))

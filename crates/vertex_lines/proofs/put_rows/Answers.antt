@@ -1,23 +1,11 @@
+-- A line behind the lines before it (rows_turn).
 -- Assumes nothing.
+use Rattle.std.proofs.Common.{arith}
 use Rattle.vertex_lines.proofs.Rows.{rows_none, rows_turn}
-use mathlib.Core.Path.{◌≡◌, refl}
-use native.Mathlib.Omega.{arith}
-use borrow.Author.Rules.{rules}
 use Rattle.vertex_lines.proofs.put_rows.Goals as goal
 
 pub loop-v-init : goal.loop-v-init
-loop-v-init c = (omega arith, refl, omega arith, rows_none _ _ _)
+loop-v-init c = (rows_none _ _, omega arith)
 
 pub loop-v-preserved : goal.loop-v-preserved
-loop-v-preserved c =
-    let a = c.args in
-    let l = c.loop-v in
-    let r = c.put_row-end in
-    (omega arith, search rules, omega (arith, r.ensures.1), rows_turn a.out.now a.at a.distances.now l.v l.end l.out r.result _ l.invariant.3 r.ensures.0)
-
-pub returns : goal.returns
-returns c =
-    let a = c.args in
-    let l = c.loop-v in
-    let e : l.v ≡ a.n = omega arith in
-    (rw e at l.invariant.3, rw e at l.invariant.2)
+loop-v-preserved c = (rows_turn c.args.distances.now c.loop-v.v c.loop-v.invariant.0 c.put_row.ensures.0, omega (arith, c.put_row.ensures.1))

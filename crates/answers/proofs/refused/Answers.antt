@@ -1,0 +1,10 @@
+-- The pieces of the line added behind each other (adds_then).
+-- Assumes nothing.
+use Rattle.answers.specs.Answers.{refused_text}
+use Rattle.pieces.proofs.Printing.{adds_then}
+use native.Mathlib.Omega.{arith}
+use Rattle.answers.proofs.refused.Goals as goal
+
+pub returns : goal.returns
+unfolding refused_text
+returns c = (adds_then c.word.ensures c.field.ensures.0, omega (arith, c.word.ensures.stored.ends, c.field.ensures.1))

@@ -1,0 +1,2 @@
+-- Ready: what reading the levels relies on.
+pub mod Ready

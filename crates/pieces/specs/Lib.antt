@@ -1,0 +1,2 @@
+-- Texts: a piece added to a text. Assumes nothing.
+pub mod Texts

@@ -1,0 +1,2 @@
+-- Numbers: no refusal has the number 0. Assumes nothing.
+pub mod Numbers

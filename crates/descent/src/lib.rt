@@ -27,6 +27,7 @@ pub struct Halt {
 // One level takes its `count` updates, which stand at `at`. Its m elements are at `from`, and then in the work area. `floor` is the least pair
 // that may come: one past the bound of the level above. An empty level whose bound is that bound takes nothing, since all its updates are above
 // it or Deletes. They lie where the next level's end, so that they are handed on by the header alone.
+// Kept: nine numbers of one visit and no struct of them, since the loop of `go_down` has each by itself and calls this once.
 // Kept: `floor` is 0 at level 0 and not a None: 0 is the least pair itself, and `Visitable`, `AllClear` and `Chain` all count from it.
 fn visit(
     img: &mut [u64],

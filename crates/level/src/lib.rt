@@ -174,7 +174,7 @@ fn take_one(img: &mut [u64], area: usize, m: usize, to: usize, u: Update, bound:
 
 // "each level takes its updates in order": the `count` update words at `at`. Those that it passes on are written back there from the front, and
 // the words that they free are zero. Its m elements stand at `area`, where there is room for n.
-// Kept: seven parameters and no struct of them, since the signature is public, and `Desk` and `TookAll` take each by itself.
+// Kept: seven numbers of one visit and no struct; their one source, `descent::visit`, would fill it field by field, and `Desk` and `TookAll` take each by itself.
 pub fn take_updates(
     img: &mut [u64],
     area: usize,

@@ -1,4 +1,4 @@
-// OUTWARD. The queue's calls on a lent image: any slice, any numbers. A call that is not taken gives the page's number and writes nothing. What each answers
+// OUTWARD. The queue's calls on a lent image: any slice, any numbers. A call that is not taken gives the page's refusal and writes nothing. What each answers
 // and leaves is Rattle.layout.specs.Calls; the demands are Rattle.demands.specs. Each call on an image has an inner twin for an image that is known to be sound.
 #![tactic(auto)]
 

@@ -162,7 +162,7 @@ fn take_by_table(
 }
 
 // "each level takes its updates in order": many of them by the table, few by looking each up. What is left in the words is the same.
-// Kept: seven parameters and no struct of them, since the signature is public, and `Desk` and `TookAll` take each by itself.
+// Kept: seven numbers of one visit and no struct; the one caller, `descent::visit`, would fill it field by field, and `Desk` and `TookAll` take each by itself.
 pub fn take_updates(
     img: &mut [u64],
     area: usize,

@@ -1,4 +1,4 @@
-// OUTWARD. The reading of a lent sheet: any bytes. `accept` judges the sheet whole and says what it holds, or gives the page's number. What it answers is
+// OUTWARD. The reading of a lent sheet: any bytes. `accept` judges the sheet whole and says what it holds, or gives the page's refusal. What it answers is
 // `accept_of` (specs); what an accepted sheet gives to a caller is `Given`. A sheet's rows are then read by Rattle.sheet_words.
 #![tactic(auto)]
 

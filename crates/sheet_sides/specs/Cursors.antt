@@ -2,18 +2,11 @@
 -- Not here: the test (`one_sided`, Rattle.sheet_format.specs.Sheet). Read the Places of Rattle.sheet_words first.
 --   Passed    c half-edges of v's row are passed          Cursors   a cursor for each row
 --   Sought    the place that a search in a row finds
---   SMALL, MIDDLE   the places of the two smaller tables of cursors
 -- Assumes nothing.
 use Rattle.std.specs.Prelude.{ℕ, suc, ◌+◌, ◌*◌, ◌<◌, ◌≤◌, List, length, get_or}
 use Rattle.sheet_format.specs.Numbers.{word}
 use Rattle.sheet_format.specs.Sheet.{vertices, start}
 use Rattle.sheet_words.specs.Places.{half_words}
-
-abbrev pub SMALL : ℕ
-SMALL = 1024
-
-abbrev pub MIDDLE : ℕ
-MIDDLE = 16384
 
 -- c half-edges of v's row are passed: their targets are below u
 pub record Passed (s : List ℕ) (v c u : ℕ) : Type 0 where

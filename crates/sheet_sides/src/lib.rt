@@ -7,7 +7,7 @@ ghost use Rattle.sheet_format.specs.Numbers.{most_vertices, word};
 ghost use Rattle.sheet_format.specs.Rows.{names};
 ghost use Rattle.sheet_format.specs.Sheet.{row, row_one_sided, one_sided};
 ghost use Rattle.sheet_words.specs.Places.{half_words, Ranked};
-ghost use Rattle.sheet_sides.specs.Cursors.{SMALL, MIDDLE, Cursors, Sought};
+ghost use Rattle.sheet_sides.specs.Cursors.{Cursors, Sought};
 
 use sheet_words::{MOST_VERTICES, Row};
 

@@ -18,6 +18,7 @@ pub struct Printed {
 pub fn read_some(input: &mut Stdin, chunk: &mut [u8]) -> usize
     ensures { IsPrefixLen result chunk.new }
 {
+    // Kept: 0 for a read that failed too; the programs end on both, and the clause counts bytes.
     input.read(chunk).unwrap_or(0)
 }
 

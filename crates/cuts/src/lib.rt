@@ -18,6 +18,7 @@ fn cut_at(sorted: &[u64], r: usize, b: u64) -> u64
 }
 
 // The smallest of the sorted pairs, and then the cuts at 2, 4, .. 2^k.
+#[tactic(auto, using(crate::proofs::Ladders::ladder_turn))]
 fn ladder(sorted: &[u64], k: usize, b: u64) -> [u64; Header::ROWS]
     requires { (1 ≤ length sorted.now) × (k < ROWS) }
     ensures { LadderOf b sorted.now k result }

@@ -2,22 +2,22 @@
 // The meanings are Rattle.image_clauses.specs.Clauses.
 #![tactic(auto)]
 
-ghost use Rattle.std.specs.Prelude.{◌≡◌, ◌+◌, ◌<◌, ◌≤◌, length, MatchOption};
-ghost use Rattle.rules.specs.Pair.{OPEN, ROWS};
+ghost use Rattle.std.specs.Prelude.{◌≡◌, ◌+◌, ◌<◌, ◌≤◌, ◌^◌, length, MatchOption};
+ghost use Rattle.rules.specs.Pair.{IDS, OPEN, ROWS};
 ghost use Rattle.layout.specs.Image.{HEAD, elements_from, stack_from, stack_words, work_from};
-ghost use Rattle.image_clauses.specs.Clauses.{Says, Sized, HeaderOk, BoundsOk, floor_of, top_kind, updates_under};
+ghost use Rattle.image_clauses.specs.Clauses.{Says, HeaderOk, BoundsOk, floor_of, top_kind, updates_under};
 
 use pair::{Pair, Update};
 use places::{ELEMENTS_AT, HEAD, LEVELS_AT, ROW, STACK, STACK_AT, UPDATES, WORK_AT};
 
 // The ids of an image, its levels and its size, 2^levels, which is one more than the element words of all levels: every place of the image
-// is reckoned from these.
+// is reckoned from these. That there is a level is a clause of the functions that need it.
 #[derive(Clone, Copy)]
 pub struct Extent {
     pub n: u64,
     pub levels: usize,
     pub size: usize,
-    pub ghost sized: { Sized n levels size },
+    pub ghost sized: { (n ≤ IDS) × (levels ≤ ROWS) × (size ≡ 2 ^ levels) × (1 ≤ size) × (size ≤ 2 ^ ROWS) },
 }
 
 impl Extent {
@@ -88,7 +88,7 @@ pub fn header_ok(img: &[u64], e: Extent) -> bool
 
 // Whether the bounds never fall and the last one is open.
 pub fn bounds_ok(img: &[u64], e: Extent) -> bool
-    requires { elements_from e.levels ≤ length img.now }
+    requires { (1 ≤ e.levels) × (elements_from e.levels ≤ length img.now) }
     ensures { Says result (BoundsOk img.now e.levels) }
 {
     for i in 1..e.levels {

@@ -64,6 +64,7 @@ pub fn delete(image: &mut [u64], id: u64) -> Result<(), Refusal>
 }
 
 // Takes the smallest live pair out: its id and key, and how many levels were visited for it; "If no level holds one, the answer is empty". Refusals 2, 3.
+#[tactic(auto, using(crate::proofs::Returns::good_number, crate::proofs::Returns::min_unsound, crate::proofs::Returns::min_given))]
 pub fn delete_min(image: &mut [u64]) -> Result<Popped, Refusal>
     ensures { MinOutcome image.old result image.new }
 {

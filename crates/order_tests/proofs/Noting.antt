@@ -1,10 +1,8 @@
--- An entry's mark written in the code's table, by its number in the table of numbers; and one word more of a stretch, from word i on.
+-- An entry's mark written in the table; and one word more of a stretch, from word i on.
 --   noted          an entry that comes          pairs_more, pairs_fail, updates_more, updates_fail    a word that passes, and one that does not
 -- Assumes nothing.
 use Rattle.std.specs.Prelude.{ℕ, ◌+◌, ◌<◌, ◌≤◌, ◌≡◌, Bool, true, false, List, [], ◌∷◌, length, get_or, set, drop}
-use Rattle.std.proofs.Common.{arith, add-one, drop-cons, sym, ◌∙◌}
-use Rattle.std.proofs.lemmas.List.{map-set}
-use Rattle.std.proofs.Math.ListN.{get_or-map}
+use Rattle.std.proofs.Common.{add-one, drop-cons, refl}
 use Rattle.plain.specs.Lists.{Every}
 use Rattle.rules.specs.Pair.{id_of}
 use Rattle.rules.specs.Update.{Update, sink, id_in}
@@ -12,24 +10,9 @@ use Rattle.rules.specs.Heap.{stores}
 use Rattle.layout.specs.Words.{unword, unwords}
 use Rattle.image_clauses.specs.Clauses.{PairOk, Pairs, UpdateOk}
 use Rattle.image_clauses.specs.Marks.{mark, Comes, Noted, Read, refused, read_more, read_fails}
-use Rattle.order_tests.specs.declared.Mark.{Mark}
-use Rattle.order_tests.specs.declared.Mark.TheVariants.{Nothing, Deleted, Set}
-use Rattle.order_tests.specs.contracts.Mark.{the_type}
-use denote.Enum.Bare.{sameb}
-use mathlib.Core.Bool.{true≢false}
-use Rattle.order_tests.specs.Mark.{number_of, numbers}
 
-pub noted : (m : List Mark) (u : Update) (i : ℕ) (k : Mark) → i ≡ id_in u → number_of k ≡ mark u → Comes (number_of (get_or m i Nothing)) u
-    → Noted true (numbers m) (numbers (set m i k)) (u ∷ [])
-noted m u i k e f c =
-    let g : get_or (numbers m) (id_in u) 0 ≡ number_of (get_or m i Nothing) = get_or-map number_of m (id_in u) Nothing ∙ rw e in
-    record { says = (tt, (rw g c, tt)); table = λ _. map-set number_of m i k ∙ rw (e, f) }
-
--- a pair may come over a mark that is not Set
-pub may_come : (k : Mark) → false ≡ sameb the_type k Set → number_of k < 2
-may_come Nothing e = omega arith
-may_come Deleted e = omega arith
-may_come Set e = absurd (true≢false (sym e))
+pub noted : (m : List ℕ) (u : Update) (i k : ℕ) → i ≡ id_in u → k ≡ mark u → Comes (get_or m i 0) u → Noted true m (set m i k) (u ∷ [])
+noted m u i k e f c = record { says = (tt, (rw e at c, tt)); table = λ _. rw (e, f) refl }
 
 -- ---- ONE WORD MORE
 

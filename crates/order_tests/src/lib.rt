@@ -1,5 +1,5 @@
 // One reading of a level's element words and of its update words: each word is tested, and noted in a table that holds for each id what its
-// last entry was. The meanings are Rattle.image_clauses.specs.Marks, and the table's numbers there are Rattle.order_tests.specs.Mark.
+// last entry was (0 nothing yet, 1 a Delete, 2 any other). The meanings are Rattle.image_clauses.specs.Marks.
 #![tactic(auto)]
 
 ghost use Rattle.std.specs.Prelude.{[], ◌∷◌, ◌+◌, ◌<◌, ◌≤◌, length};
@@ -10,46 +10,45 @@ ghost use Rattle.rules.specs.Heap.{stores};
 ghost use Rattle.layout.specs.Words.{unwords};
 ghost use Rattle.image_clauses.specs.Clauses.{Pairs, UpdateOk};
 ghost use Rattle.image_clauses.specs.Marks.{Noted, Read};
-ghost use Rattle.order_tests.specs.Mark.{numbers};
 
 use pair::{Pair, Update};
 
-// What an id's last entry was: none yet, a Delete, or any other.
-#[derive(Clone, Copy, PartialEq, Eq)]
-pub enum Mark {
-    Nothing,
-    Deleted,
-    Set,
-}
+// The marks of a last entry.
+// Kept: bytes and no enum, for `note_pair`, `note_update` and `level_tests::level_ok` promise their answers on a table of any bytes.
+const DELETED: u8 = 1;
+
+const SET: u8 = 2;
 
 // A stored pair: false where its id's last entry is there and is no Delete.
-pub fn note_pair(last: &mut [Mark], p: u64) -> bool
+pub fn note_pair(last: &mut [u8], p: u64) -> bool
     requires { id_of p < length last.old }
-    ensures { Noted result (numbers last.old) (numbers last.new) (stores (p ∷ [])) }
+    ensures { Noted result last.old last.new (stores (p ∷ [])) }
 {
     let id = Pair(p).id() as usize;
-    if last[id] == Mark::Set {
+    if last[id] >= SET {
         return false;
     }
-    last[id] = Mark::Set;
+    last[id] = SET;
     true
 }
 
 // An update word.
-pub fn note_update(last: &mut [Mark], w: u64) -> bool
+pub fn note_update(last: &mut [u8], w: u64) -> bool
     requires { id_of w < length last.old }
-    ensures { Noted result (numbers last.old) (numbers last.new) (unwords (w ∷ [])) }
+    ensures { Noted result last.old last.new (unwords (w ∷ [])) }
 {
-    match Update::from(w) {
-        Update::Decrease(p) => {
-            last[p.id() as usize] = Mark::Set;
+    // Kept: the kind as a number, as in `stretch_tests::update_ok`; read as an `Update` the words took the program `queue` an eighth more instructions.
+    let id = Pair(w).id() as usize;
+    match Update::kind(w) {
+        Update::DECREASE => {
+            last[id] = SET;
             true
         }
-        Update::Delete(p) => {
-            last[p.id() as usize] = Mark::Deleted;
+        Update::DELETE => {
+            last[id] = DELETED;
             true
         }
-        Update::Sink(p) => note_pair(last, p.0),
+        _ => note_pair(last, w),
     }
 }
 
@@ -62,10 +61,10 @@ pub fn read_pairs(
     n: u64,
     low: u64,
     high: u64,
-    last: &mut [Mark],
+    last: &mut [u8],
 ) -> bool
     requires { (at + count ≤ length img.now) × (n ≤ length last.old) }
-    ensures { Read (Pairs n low high 0 (part img.now at count)) result (numbers last.old) (numbers last.new) (stores (part img.now at count)) }
+    ensures { Read (Pairs n low high 0 (part img.now at count)) result last.old last.new (stores (part img.now at count)) }
 {
     let mut next = 0;
     for p in &img[at..at + count] {
@@ -86,10 +85,10 @@ pub fn read_updates(
     n: u64,
     low: u64,
     top: u64,
-    last: &mut [Mark],
+    last: &mut [u8],
 ) -> bool
     requires { (at + count ≤ length img.now) × (n ≤ length last.old) }
-    ensures { Read (Every (UpdateOk n low top) (part img.now at count)) result (numbers last.old) (numbers last.new) (unwords (part img.now at count)) }
+    ensures { Read (Every (UpdateOk n low top) (part img.now at count)) result last.old last.new (unwords (part img.now at count)) }
 {
     for w in &img[at..at + count] {
         if !stretch_tests::update_ok(*w, n, low, top) || !note_update(last, *w) {

@@ -18,9 +18,15 @@ use Rattle.walks.specs.Walks.{distance_words}
 use Rattle.walks.proofs.Walks.{words-length}
 use Rattle.sheet_format.specs.Sheet.{vertices, sheet_tests, refusal}
 use Rattle.sheet_format.proofs.Judge.{tests_numbered}
+use Rattle.std.specs.Prelude.{Err}
+use Rattle.refusals.specs.declared.Refusal.{Refusal as Code}
+use Rattle.refusals.specs.Numbers.{number_of}
+use Rattle.sheet.specs.Answer.{accept_of}
 use Rattle.sheet.specs.Given.{Given}
+use Rattle.sheet.proofs.Given.{refused_given}
 use Rattle.runs.specs.Run.{RunOutcome, refused, reached, slice_tests, ran_with, RunMeets}
 use Rattle.runs.proofs.Leaves.{run_accepted_exactly}
+use Rattle.run.specs.Answer.{ran_to}
 use Rattle.run.specs.Underway.{so_far}
 use Rattle.run.specs.Turns.{at_start, Started, Ready, Runs}
 
@@ -43,6 +49,12 @@ module _ (s ds ws : List ℕ) where
   pub sheet_refused : (k : ℕ) → refusal s ≡ k → 0 < k → RunMeets s ds ws (unwritten k)
   unfolding refusal
   sheet_refused k e h = inl (k, first-before (sheet_tests s) (slice_tests s ds ws) k ((first_exactly (sheet_tests s) (tests_numbered s) k).1 (e, h)), refl)
+
+  -- the refusal that the reading of the sheet gives is the run's
+  pub sheet_met : (r : Code) → Err (number_of r) ≡ accept_of s → RunMeets s ds ws (ran_to (Err r) ds ws)
+  sheet_met r e =
+      let k = refused_given s (number_of r) e in
+      sheet_refused (number_of r) k.0 k.1
 
   module _ (m h v : ℕ) (g : Given s m h v) where
     slice_refused : (k : ℕ) → First (rows_of (slice_tests s ds ws)) k → RunMeets s ds ws (unwritten k)

@@ -22,6 +22,7 @@ use refusals::Refusal;
 use sheet_words::Row;
 
 // "The run writes n distances; unreached is 2^40. It .. returns the number reached, and leaves a fresh image for n." Refusals 11 to 17 of the sheet, 18, 2.
+#[tactic(auto, using(crate::proofs::Answering::sheet_met))]
 pub fn distances(sheet: &[u8], distances: &mut [u64], image: &mut [u64]) -> Result<u64, Refusal>
     ensures { RunMeets sheet.now distances.old image.old (ran_to result distances.new image.new) }
 {

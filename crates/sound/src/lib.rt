@@ -12,7 +12,6 @@ ghost use Rattle.level_tests.specs.Ready.{Ready};
 ghost use Rattle.sound.specs.Answer.{verdict_of, refusal_of};
 
 use header_tests::Extent;
-use order_tests::Mark;
 use pair::Pair;
 use places::{N_AT, SMALLEST, WAITING_AT};
 use refusals::Refusal;
@@ -29,7 +28,7 @@ pub fn levels_in<const PLACES: usize>(img: &[u64], e: Extent) -> bool
     requires { (PLACES ≤ IDS) × (e.n ≤ PLACES) × Ready img.now e }
     ensures { Says result (InOrder img.now e.n e.levels) }
 {
-    let mut last = [Mark::Nothing; PLACES];
+    let mut last = [0u8; PLACES];
     level_tests::levels_ok(img, e, &mut last)
 }
 
@@ -49,7 +48,7 @@ pub fn levels_in_order(img: &[u64], e: Extent) -> bool
 
 // What the header states: its words, the bounds, and that the updates have room.
 pub fn shape_ok(img: &[u64], e: Extent) -> bool
-    requires { work_from e.n e.levels + e.n ≤ length img.now }
+    requires { (1 ≤ e.levels) × (work_from e.n e.levels + e.n ≤ length img.now) }
     ensures { Says result (Shape img.now e.n e.levels) }
 {
     header_tests::header_ok(img, e)
@@ -58,8 +57,10 @@ pub fn shape_ok(img: &[u64], e: Extent) -> bool
 }
 
 // What it states is there: the waiting count, zeros behind the updates, the levels, and the order.
+// Never inlined: the stack of its tables would be taken, and touched, by the test of a slice that is refused for its length alone.
+#[inline(never)]
 pub fn contents_ok(img: &[u64], e: Extent) -> bool
-    requires { (work_from e.n e.levels + e.n ≤ length img.now) × Shape img.now e.n e.levels }
+    requires { (1 ≤ e.levels) × (work_from e.n e.levels + e.n ≤ length img.now) × Shape img.now e.n e.levels }
     ensures { Says result (Contents img.now e.n e.levels) }
 {
     let stack = e.stack_at();

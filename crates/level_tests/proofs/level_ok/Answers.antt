@@ -9,12 +9,11 @@ returns-then-read_pairs c =
     let a = c.args in
     let f = c.floor_of-low in
     let t = c.top_kind-top in
-    let from = c.elements_at.ensures in
-    level_read a.img.now a.e.n a.e.levels a.i a.at a.size f.result t.result c.requires.1 f.ensures t.ensures _ _ _ (omega arith) (rw from at c.if-not-zeros.ensures) (rw from at c.if-read_pairs.ensures) _ c.read_updates.ensures
+    level_read a.img.now a.n a.levels a.i a.at a.size f.result t.result c.requires.2 f.ensures t.ensures _ _ _ (omega arith) c.if-not-zeros.ensures c.if-read_pairs.ensures _ c.read_updates.ensures
 
 pub returns-else-read_pairs : goal.returns-else-read_pairs
 returns-else-read_pairs c =
     let a = c.args in
     let f = c.floor_of-low in
     let t = c.top_kind-top in
-    rw c.if-read_pairs.false (pairs_fail a.img.now a.e.n a.e.levels a.i a.at a.size f.result t.result c.requires.1 f.ensures t.ensures _ _ _ (rw c.elements_at.ensures at c.if-read_pairs.ensures))
+    rw c.if-read_pairs.false (pairs_fail a.img.now a.n a.levels a.i a.at a.size f.result t.result c.requires.2 f.ensures t.ensures _ _ _ c.if-read_pairs.ensures)

@@ -17,7 +17,7 @@ level_ok-requires c =
     let r = pow_pos k in
     let t = under_turn a.img.now a.e.levels k l.i next h in
     let u = under_le a.img.now k (a.e.levels - k) a.e.levels (omega arith) in
-    (omega arith, omega arith, omega arith, omega arith, omega arith, floor_open a.img.now a.e.levels c.requires.0.1 k (omega arith), omega arith)
+    (omega arith, omega arith, omega arith, omega arith, omega arith, omega arith, floor_open a.img.now a.e.levels c.requires.0.1 k (omega arith), omega arith)
 
 pub returns-then-not-level_ok : goal.returns-then-not-level_ok
 returns-then-not-level_ok c =

@@ -41,10 +41,11 @@ fn needed<'a>(list: &'a str, top: &'a str) -> Vec<&'a str> {
     wanted
 }
 
+/// The code alone: a crate's own tests stand last, and lend plain slices.
 fn without_contracts(source: &str) -> String {
     let mut module = String::new();
     let mut open_braces = 0;
-    for line in source.lines() {
+    for line in source.lines().take_while(|line| *line != "#[cfg(test)]") {
         let text = line.trim_start();
         let contract = text.starts_with("requires {") || text.starts_with("ensures {");
         if contract || open_braces > 0 {

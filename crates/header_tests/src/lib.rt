@@ -11,7 +11,7 @@ use pair::{Pair, Update};
 use places::{ELEMENTS_AT, HEAD, LEVELS_AT, ROW, STACK, STACK_AT, UPDATES, WORK_AT};
 
 // The ids of an image, its levels and its size, 2^levels, which is one more than the element words of all levels: every place of the image
-// is reckoned from these. That there is a level is a clause of the functions that need it.
+// is reckoned from these. It may have no level; that of an image has one or more (`fresh_image::depth_of`).
 #[derive(Clone, Copy)]
 pub struct Extent {
     pub n: u64,
@@ -88,9 +88,13 @@ pub fn header_ok(img: &[u64], e: Extent) -> bool
 
 // Whether the bounds never fall and the last one is open.
 pub fn bounds_ok(img: &[u64], e: Extent) -> bool
-    requires { (1 ≤ e.levels) × (elements_from e.levels ≤ length img.now) }
+    requires { elements_from e.levels ≤ length img.now }
     ensures { Says result (BoundsOk img.now e.levels) }
 {
+    // Without a level, the clause's last bound is the word that the first row would begin with, if it is there.
+    if e.levels == 0 {
+        return img.len() > HEAD && img[HEAD] == Pair::OPEN;
+    }
     for i in 1..e.levels {
         if img[HEAD + ROW * (i - 1)] > img[HEAD + ROW * i] {
             return false;
@@ -114,4 +118,27 @@ pub fn stack_used(img: &[u64], e: Extent) -> Option<usize>
         used += more;
     }
     Some(used)
+}
+
+#[cfg(test)]
+mod tests {
+    use super::*;
+
+    // "2^56, the open bound": without a level, the word behind the head of six is asked for it.
+    #[test]
+    fn bounds_of_no_levels() -> Result<(), &'static str> {
+        let e = Extent {
+            n: 0,
+            levels: 0,
+            size: 1,
+        };
+        let open = bounds_ok(&[9, 9, 9, 9, 9, 9, 1 << 56], e);
+        let less = bounds_ok(&[9, 9, 9, 9, 9, 9, (1 << 56) - 1], e);
+        let none = bounds_ok(&[9, 9, 9, 9, 9, 9], e);
+        if (open, less, none) == (true, false, false) {
+            Ok(())
+        } else {
+            Err("the open bound")
+        }
+    }
 }

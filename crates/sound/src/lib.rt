@@ -3,10 +3,10 @@
 #![tactic(auto)]
 
 ghost use Rattle.std.specs.Prelude.{◌≡◌, ◌+◌, ◌≤◌, length};
-ghost use Rattle.rules.specs.Pair.{IDS};
+ghost use Rattle.rules.specs.Pair.{IDS, levels};
 ghost use Rattle.layout.specs.Image.{work_from};
 ghost use Rattle.layout.specs.SoundImage.{Judged};
-ghost use Rattle.image_clauses.specs.Clauses.{Says};
+ghost use Rattle.image_clauses.specs.Clauses.{Says, Sized};
 ghost use Rattle.image_clauses.specs.All.{InOrder, Shape, Contents};
 ghost use Rattle.level_tests.specs.Ready.{Ready};
 ghost use Rattle.sound.specs.Answer.{verdict_of, refusal_of};
@@ -48,7 +48,7 @@ pub fn levels_in_order(img: &[u64], e: Extent) -> bool
 
 // What the header states: its words, the bounds, and that the updates have room.
 pub fn shape_ok(img: &[u64], e: Extent) -> bool
-    requires { (1 ≤ e.levels) × (work_from e.n e.levels + e.n ≤ length img.now) }
+    requires { work_from e.n e.levels + e.n ≤ length img.now }
     ensures { Says result (Shape img.now e.n e.levels) }
 {
     header_tests::header_ok(img, e)
@@ -60,7 +60,7 @@ pub fn shape_ok(img: &[u64], e: Extent) -> bool
 // Never inlined: the stack of its tables would be taken, and touched, by the test of a slice that is refused for its length alone.
 #[inline(never)]
 pub fn contents_ok(img: &[u64], e: Extent) -> bool
-    requires { (1 ≤ e.levels) × (work_from e.n e.levels + e.n ≤ length img.now) × Shape img.now e.n e.levels }
+    requires { (work_from e.n e.levels + e.n ≤ length img.now) × Shape img.now e.n e.levels }
     ensures { Says result (Contents img.now e.n e.levels) }
 {
     let stack = e.stack_at();
@@ -91,6 +91,19 @@ impl From<Unfit> for Refusal {
     }
 }
 
+// The extent of the image of n ids, which has a level.
+pub fn extent_of(n: u64) -> Extent
+    requires { n ≤ IDS }
+    ensures { (result.n ≡ n) × (result.levels ≡ levels n) × Sized result.n result.levels result.size }
+{
+    let depth = fresh_image::depth_of(n as usize);
+    Extent {
+        n,
+        levels: depth.levels,
+        size: depth.size,
+    }
+}
+
 // The test: refusal 2, then refusal 3, or a sound image.
 pub fn judge(img: &[u64]) -> Result<(), Unfit>
     ensures { Judged img.now (verdict_of result) }
@@ -102,12 +115,7 @@ pub fn judge(img: &[u64]) -> Result<(), Unfit>
     if n < 1 || n > Pair::IDS {
         return Err(Unfit::NotSound);
     }
-    let depth = fresh_image::depth_of(n as usize);
-    let e = Extent {
-        n,
-        levels: depth.levels,
-        size: depth.size,
-    };
+    let e = extent_of(n);
     if img.len() < e.need() {
         return Err(Unfit::TooShort);
     }
@@ -115,4 +123,44 @@ pub fn judge(img: &[u64]) -> Result<(), Unfit>
         return Err(Unfit::NotSound);
     }
     Ok(())
+}
+
+#[cfg(test)]
+mod tests {
+    use super::*;
+
+    // Without an id or a level, all places are behind the head of six, and the word there is the last bound.
+    #[test]
+    fn no_levels() -> Result<(), &'static str> {
+        let e = Extent {
+            n: 0,
+            levels: 0,
+            size: 1,
+        };
+        let whole = [0, 0, 0, 6, 6, 6, 1 << 56];
+        let bound = [0, 0, 0, 6, 6, 6, 0];
+        let waits = [0, 0, 1, 6, 6, 6, 1 << 56];
+        let shapes = (shape_ok(&whole, e), shape_ok(&bound, e));
+        let contents = (
+            shape_ok(&whole, e) && contents_ok(&whole, e),
+            shape_ok(&waits, e) && !contents_ok(&waits, e),
+        );
+        if shapes == (true, false) && contents == (true, true) {
+            Ok(())
+        } else {
+            Err("no levels")
+        }
+    }
+
+    // "L is the least number, at least 1, with 2^(L-1) >= n."
+    #[test]
+    fn extents() -> Result<(), &'static str> {
+        for (n, levels, size) in [(1, 1, 2), (2, 2, 4), (3, 3, 8), (65536, 17, 131072)] {
+            let e = extent_of(n);
+            if (e.n, e.levels, e.size) != (n, levels, size) {
+                return Err("extents");
+            }
+        }
+        Ok(())
+    }
 }

@@ -8,7 +8,7 @@ setup:
 run: setup
 	@scripts/run
 
-# The gate: proves every crate, tries every must-fail edit, runs each program. Its last line is 'N passed, 0 failed'.
+# The gate: proves every crate, tries every must-fail edit, runs the tests and each program. Its last line is 'N passed, 0 failed'.
 test: setup
 	@scripts/check-docs
 	@scripts/compare

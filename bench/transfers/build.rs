@@ -41,7 +41,8 @@ fn needed<'a>(list: &'a str, top: &'a str) -> Vec<&'a str> {
     wanted
 }
 
-/// The code alone: a crate's own tests stand last, and lend plain slices.
+/// The code alone. A crate's own tests stand last and are left out: they lend
+/// plain slices.
 fn without_contracts(source: &str) -> String {
     let mut module = String::new();
     let mut open_braces = 0;

@@ -124,7 +124,7 @@ pub fn stack_used(img: &[u64], e: Extent) -> Option<usize>
 mod tests {
     use super::*;
 
-    // "2^56, the open bound": without a level, the word behind the head of six is asked for it.
+    // "The open bound 2^56": without a level, the word behind the head of six is asked for it.
     #[test]
     fn bounds_of_no_levels() -> Result<(), &'static str> {
         let e = Extent {
